@@ -1,0 +1,68 @@
+// The types of document 01's answers, and its table of the thirteen state types. The definitions are in specs/.
+
+ghost use mathlib.Core.Path.{_≡_};
+ghost use lib.ListN.{getD};
+ghost use Rattle.format.specs.Sections.{follows};
+
+// Why a decode was refused: its number, field, place and value.
+pub struct Refusal {
+    pub number: u32,
+    pub field: u32,
+    pub place: usize,
+    pub value: i64,
+}
+
+// Words read, max token type, and records in each table, with derived edges also on their own.
+pub struct Counts {
+    pub words: usize,
+    pub token: i32,
+    pub states: usize,
+    pub edges: usize,
+    pub derived: usize,
+    pub ranges: usize,
+    pub sets: usize,
+    pub rules: usize,
+    pub modes: usize,
+    pub decisions: usize,
+    pub actions: usize,
+}
+
+// Either an acceptance holding its counts or a refusal holding its number, field, place and value.
+pub enum Decoded {
+    Accepted(Counts),
+    Refused(Refusal),
+}
+
+// Why a question was refused: a question's refusal holds number and value.
+pub struct Denial {
+    pub number: u32,
+    pub value: i64,
+}
+
+// The number of a state's n-th edge.
+pub enum NthEdge {
+    Edge(i32),
+    Denied(Denial),
+}
+
+// Whether an edge matches a symbol.
+pub enum Matching {
+    Matches(bool),
+    Denied(Denial),
+}
+
+// A set's ranges as a part of the lent table: the part's first word, and its length in words.
+pub enum SetPart {
+    Part(usize, usize),
+    Denied(Denial),
+}
+
+// How many words follow a state of each of the thirteen types.
+pub const FOLLOWS: [usize; 13] = [0, 1, 1, 2, 2, 2, 1, 1, 1, 1, 1, 1, 2];
+
+// The table, read: 0 for what is no state type.
+pub fn words_after(kind: usize) -> usize
+    ensures { λ r. ⌜ r ≡ getD follows kind 0 ⌝ }
+{
+    if kind < 13 { FOLLOWS[kind] } else { 0 }
+}

@@ -1,0 +1,21 @@
+-- Theorems about the definitions of `format`.
+pub mod Reading
+pub mod Running
+pub mod Collect
+pub mod Gives
+pub mod Order
+pub mod Canonical
+pub mod Kept
+pub mod Saturating
+pub mod Lookup
+pub mod Meaning
+pub mod Keeping
+pub mod Fits
+pub mod Demand3
+pub mod Safe
+pub mod Chains
+pub mod Asked
+pub mod Refusals
+pub mod Grows
+pub mod Own
+pub mod Marks
