@@ -23,7 +23,7 @@ short-way {s} {e} {r} {l} (before p) ih = omega (arith, ih s e)
 short-way {s} {e} {r} {l} (behind p q) ih = omega (arith, ih (r .start) (r .stop))
 short-way {s} {e} {r} {l} (joined p q) ih = omega (arith, ih (lower s (r .start)) (upper e (r .stop)))
 
-add-short : (l : List Range) (s e : ℤ) → length (add s e l) ≤ suc (length l)
+pub add-short : (l : List Range) (s e : ℤ) → length (add s e l) ≤ suc (length l)
 unfolding add
 add-short [] s e = omega arith
 add-short (r ∷ l) s e = short-way (way s e r l) (add-short l)
@@ -168,13 +168,17 @@ room-words lent Decisions n h = omega arith
 room-words lent Actions n h = omega arith
 room-words lent Scratch n h = omega arith
 
--- the records of an accepted list fit the lent slices
+-- the records of an accepted list have room
+pub read-roomed : (lent : Table → ℕ) (ws : List ℤ) (at : ℕ) (r : Read) (n : ℕ) → run dialect ws (room lent) at ≡ ok r n → Roomed (room lent) r
+read-roomed lent ws at r n e = gives-run W (room lent) (Roomed (room lent)) dialect (dialect-room (room lent)) ws at (λ i h. tt) e
+
+-- and fit the lent slices
 pub records-fit : (lent : Table → ℕ) (ws : List ℤ) (at : ℕ) (r : Read) (n : ℕ) → run dialect ws (room lent) at ≡ ok r n → (t : Table) → length (flat (records r t)) ≤ lent t
 records-fit lent ws at r n e t =
     omega (
       arith,
       flat-long (width t) (records r t) (records-wide r t),
-      room-words lent t (length (records r t)) (records-room (room lent) r (gives-run W (room lent) (Roomed (room lent)) dialect (dialect-room (room lent)) ws at (λ i h. tt) e) t),
+      room-words lent t (length (records r t)) (records-room (room lent) r (read-roomed lent ws at r n e) t),
     )
 
 -- what a decode leaves in a lent slice is as long as the slice, on acceptance and on refusal

@@ -1,0 +1,1 @@
+// Theorems alone: what the code does in place is what `format` says.

@@ -1,0 +1,2 @@
+mod Left
+mod Locals

@@ -1,0 +1,2 @@
+-- What `decode` promises, beyond its own statement.
+pub mod Demand3

@@ -1,0 +1,47 @@
+-- `links::precedence::set_flag` meets its contract: one store. Assumes nothing.
+use mathlib.Core.Path.{refl}
+use borrow.Author.Needs.{needs}
+use Rattle.words.proofs.Signs.{back32}
+use Rattle.links.proofs.precedence.set_flag.Statement.{statement}
+use Rattle.links.proofs.precedence.set_flag.Tie as tie
+
+mul-i : tie.Need-mul-i
+mul-i c = search needs
+
+add-i : tie.Need-add-i
+add-i c = search needs
+
+mul-with-bit : tie.Need-mul-with-bit
+mul-with-bit c = search needs
+
+slice-copy-out-with-bit : tie.Need-slice-copy-out-with-bit
+slice-copy-out-with-bit c = search needs
+
+with-bit-requires : tie.Need-with-bit-requires
+with-bit-requires c κs = search needs
+
+mul-t9 : tie.Need-mul-t9
+mul-t9 c = search needs
+
+slice-set-from-states : tie.Need-slice-set-from-states
+slice-set-from-states c = search needs
+
+same-length : tie.Need-same-length
+same-length c = search needs
+
+returns : tie.Need-returns
+returns c = rw (back32 _ (c .with-bit .ok), c .with-bit .ensures, back32 _ (c .before .with-bit-arg .given)) refl
+
+pub set-flag-spec : {M : Type 1} → statement M
+set-flag-spec =
+    tie.close
+    (tie.spec
+    mul-i
+    add-i
+    mul-with-bit
+    slice-copy-out-with-bit
+    with-bit-requires
+    mul-t9
+    slice-set-from-states
+    same-length
+    returns)

@@ -1,0 +1,4 @@
+-- Lemmas of the functions' proofs.
+mod Tested
+mod Merging
+mod Halving

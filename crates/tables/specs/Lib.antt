@@ -1,0 +1,2 @@
+-- Words of the lent tables.
+pub mod Words

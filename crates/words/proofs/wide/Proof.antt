@@ -1,0 +1,14 @@
+use mir.Syntax.{w32, w64}
+use mir.ValLaws.{toZ-ofZ}
+use Rattle.words.proofs.Signs.{wider}
+use Rattle.words.proofs.wide.Statement.{statement}
+use Rattle.words.proofs.wide.Tie as tie
+
+cast-result : tie.Need-cast-result
+cast-result c = rw (toZ-ofZ w32 (c .args .x) (c .fits .x)) (wider (c .args .x) (c .fits .x))
+
+returns : tie.Need-returns
+returns c = rw (toZ-ofZ w32 (c .args .x) (c .fits .x)) (toZ-ofZ w64 (c .args .x) (wider (c .args .x) (c .fits .x)))
+
+pub wide-spec : {M : Type 1} → statement M
+wide-spec = tie.close (tie.spec cast-result returns)
