@@ -22,7 +22,8 @@ use Rattle.inplace.specs.Links.{Net, net, firstOr, lastOf, chained, linked}
 use Rattle.agrees.specs.Forms.{padded, statesForm, edgeLine, edgesForm}
 use Rattle.agrees.specs.Words.{noState, noEdge, state-word}
 use Rattle.agrees.specs.Lists.{apart, below}
-use Rattle.agrees.specs.Rows.{numbered-long, numbered-wide, rows-more, rows-same, put-more, row-word, set-row}
+use Rattle.agrees.specs.Rows.{rows-more, put-more, row-word, set-row}
+use Rattle.laws.specs.Rows.{Wide, numbered-long, numbered-every, rows-same}
 
 -- ---- what follows in a chain
 
@@ -158,7 +159,7 @@ module _ (ss : List State) (a b : ℕ) (F M : ℕ → ℕ) (es : List Edge) (e :
       let row : edgeRow mark e ≡ edgeLine M es (length es) e = ap (λ (m : ℕ). edgeRow m e) (sym h) ∙ ap (leading M (length es) e) (sym (next-past es s (length es) (omega arith))) in
       ap (λ (r : List ℤ). put 8 (length es) r (edgesForm b M es)) row
       ∙ ap (λ (m : ℕ). put 8 m (edgeLine M es (length es) e) (edgesForm b M es)) (sym long)
-      ∙ put-more 8 b (numbered 0 (edgeLine M es) es) (edgeLine M es (length es) e) (numbered-wide 8 0 (edgeLine M es) es (λ j x. refl)) refl (omega arith)
+      ∙ put-more 8 b (numbered 0 (edgeLine M es) es) (edgeLine M es (length es) e) (numbered-every (Wide 8) 0 (edgeLine M es) es (λ j x. refl)) refl (omega arith)
       ∙ ap (λ (r : List (List ℤ)). padded b r) (sym (rows-more (edgeLine M es) es e))
 
   abbrev at : ℕ → Edge

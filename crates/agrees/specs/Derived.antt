@@ -13,7 +13,8 @@ use Rattle.format.specs.Reading.{pick}
 use Rattle.format.specs.Sections.{State, Edge, edgeOf, size}
 use Rattle.format.specs.Links.{those, each, leaving, stateAt, stopOf, stops, returns, derived}
 use Rattle.laws.specs.Gives.{Every}
-use Rattle.agrees.specs.Lists.{each-append, every-append, those-append, upTo, each-number, apart, below}
+use Rattle.agrees.specs.Lists.{upTo, each-number, apart, below}
+use Rattle.laws.specs.Lists.{each-append, every-append, those-append}
 
 module _ (ss : List State) (n : ℕ) where
   -- An edge has a return edge, and which.

@@ -1,66 +1,36 @@
 -- The edges that are read: put and chained one after another, they are the edges of the section, in its order.
-use mathlib.Core.Path.{_≡_, refl, sym, ap, _∙_, subst}
+use mathlib.Core.Path.{_≡_, refl, sym, ap, _∙_}
 use mathlib.Core.List.{List, [], _∷_, _++_, append-nil, append-assoc}
-use mathlib.Core.Bool.{Bool, true, false}
 use Prim.Native.Nat.{ℕ, zero, suc, _+_, _*_, _≤_, _<_}
 use native.Mathlib.Omega.{arith}
 use native.Mathlib.Nat.{sub-zero}
-use lib.Dec.{ltb}
-use lib.IntN.{ℤ, pos}
-use lib.ListN.{length, getD, replicate, length-append, List·getD-map}
-use borrow.Author.Tests.{ltb-true}
-use Rattle.format.specs.Reading.{Table, Edges, Outcome, ok, done, run, _>>=_, times, pick, fail, listed, known, get, index, count}
-use Rattle.format.specs.Sections.{State, Edge, testA, testB, meaning, edge, edges}
+use lib.IntN.{ℤ}
+use lib.ListN.{length, length-append}
+use Rattle.format.specs.Reading.{Table, Edges, Outcome, ok, done, run, _>>=_, times, listed, count}
+use Rattle.format.specs.Sections.{State, Edge, edge, edges}
 use Rattle.format.specs.Tables.{zeros}
 use Rattle.format.specs.declared.Counts.{Counts}
 use Rattle.laws.specs.Running.{after, run-bind, turns}
-use Rattle.laws.specs.Gives.{Gives, Any, Every, gives-done, gives-bind, then, gives-times, gives-count, weaker}
+use Rattle.laws.specs.Gives.{Any, Every, gives-count}
 use Rattle.inplace.specs.Held.{Held, with}
 use Rattle.inplace.specs.Sections.{counted}
 use Rattle.inplace.specs.Links.{Net, net, linked, edgeOne, edgesEnd, edgesFrom, edging}
 use Rattle.agrees.specs.Forms.{statesForm, edgesForm}
-use Rattle.agrees.specs.After.{Given, given, after-same, after-after, laid-first, same-first, after-map, times-long}
+use Rattle.agrees.specs.After.{given, after-same, after-after, laid-first, same-first, after-map, times-long}
 use Rattle.agrees.specs.Chained.{linked-more}
+use Rattle.laws.specs.Sound.{Sound, edge-sound, edges-sound}
+use Rattle.laws.specs.Lists.{every-map}
 
 -- ---- every edge's source is a listed state
-
-constant : {A : Type 0} (n k : ℕ) (a : A) → getD (replicate n a) k a ≡ a
-constant zero k a = refl
-constant (suc n) zero a = refl
-constant (suc n) (suc k) a = constant n k a
-
-meaning-source : (k s t : ℕ) (a b c : ℤ) → meaning k s t a b c .source ≡ s
-meaning-source k s t a b c = rw (← List·getD-map (λ (e : Edge). e .source)) (constant 11 k s)
 
 module _ (rooms : Table → ℕ) (n nsets : ℕ) where
   abbrev Listed : Edge → Type 0
   Listed e = e .source < n
 
-  listed-below : (number f p k : ℕ) → Given rooms (λ j. k < n) (listed number n f p k)
-  unfolding Gives
-  listed-below number f p k = go (ltb k n) refl
-    where
-      go : (t : Bool) → ltb k n ≡ t → Gives Any rooms (λ j. k < n) (pick t (done k) (fail number f p (pos k)))
-      go true e = ltb-true k n e
-      go false e = tt
-
-  edge-gives : Given rooms Listed (edge n nsets)
-  unfolding edge Gives
-  edge-gives = λ place.
-      then Any rooms Listed (index 24) _ (λ s. then Any rooms Listed (index 25) _ (λ t. then Any rooms Listed (get 26) _ (λ w.
-      then Any rooms Listed (get 27) _ (λ a. then Any rooms Listed (get 28) _ (λ b. then Any rooms Listed (get 29) _ (λ c.
-      then Any rooms Listed (known 8 1 10 26 (place + 2) w) _ (λ k. then Any rooms Listed (testA nsets k (place + 3) a) _ (λ x. then Any rooms Listed (testB k (place + 4) b) _ (λ y.
-      gives-bind Any rooms (λ j. s < n) Listed (listed 10 n 24 place s) _ (listed-below 10 24 place s)
-      (λ j h. gives-done Any rooms Listed (meaning k s t a b c) (subst (λ (m : ℕ). m < n) (sym (meaning-source k s t a b c)) h)))))))))))
-
-  edges-give : Given rooms (Every Listed) (edges n nsets)
-  unfolding edges
-  edges-give =
-      then Any rooms (Every Listed) (count Edges 23) _ (λ k.
-      weaker Any rooms (λ l. (length l ≡ k) × Every Listed l) (Every Listed) (λ l x. x .1) (times k (edge n nsets)) (gives-times Any rooms Listed k (edge n nsets) edge-gives))
-
   pub edges-listed : (ws : List ℤ) (at : ℕ) (es : List Edge) (m : ℕ) → run (edges n nsets) ws rooms at ≡ ok es m → Every Listed es
-  edges-listed ws at es m e = given rooms (Every Listed) (edges n nsets) edges-give ws at e
+  edges-listed ws at es m e =
+      every-map (Sound n nsets) Listed (λ x s. s .listed) es
+      (given rooms (Every (Sound n nsets)) (edges n nsets) (edges-sound rooms n nsets) ws at e)
 
 -- ---- the turns
 
@@ -77,7 +47,7 @@ module _ (ss : List State) (a b : ℕ) (F : ℕ → ℕ) (nsets : ℕ) (ws : Lis
       laid-first ws rooms at (edge (length ss) nsets >>= (λ x. done (linked i 0 x (tables es)))) _ (edge (length ss) nsets) _ (λ x m. linked i 0 x (tables es)) _
       (run-bind (edge (length ss) nsets) (λ x. done (linked i 0 x (tables es))) ws rooms at)
       (λ x m q.
-      ap (λ (t : Net). run (turns n (i + 1) (edgeOne (length ss) nsets) t) ws rooms m) (one x (given rooms (λ (y : Edge). y .source < length ss) (edge (length ss) nsets) (edge-gives rooms (length ss) nsets) ws at q))
+      ap (λ (t : Net). run (turns n (i + 1) (edgeOne (length ss) nsets) t) ws rooms m) (one x (given rooms (Sound (length ss) nsets) (edge (length ss) nsets) (edge-sound rooms (length ss) nsets) ws at q .listed))
       ∙ edges-turns n (i + 1) (es ++ (x ∷ [])) m (omega (arith, length-append es (x ∷ []))) (omega arith) (omega arith)
       ∙ after-same (run (times n (edge (length ss) nsets)) ws rooms m) _ (λ xs k. ok (tables (es ++ (x ∷ xs))) k) (λ xs k d. ap (λ (l : List Edge). ok (tables l) k) (append-assoc es (x ∷ []) xs))
       ∙ sym (after-map ws rooms m (times n (edge (length ss) nsets)) (λ xs. x ∷ xs) (λ xs k. ok (tables (es ++ xs)) k)))

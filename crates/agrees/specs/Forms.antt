@@ -3,9 +3,9 @@ use mathlib.Core.List.{List, [], _∷_, _++_}
 use Prim.Native.Nat.{ℕ, _-_}
 use lib.IntN.{ℤ, pos}
 use lib.ListN.{length}
-use Rattle.format.specs.Sections.{State, Rule, Edge, Read, none}
+use Rattle.format.specs.Sections.{State, Rule, Edge}
 use Rattle.format.specs.Links.{flat, first, last, chain, next, stopOf}
-use Rattle.format.specs.Tables.{numbered, zeros, edgesOf, derivedOf}
+use Rattle.format.specs.Tables.{numbered, zeros}
 
 -- Rows of words, and zeros up to n words in all.
 abbrev pub padded : ℕ → List (List ℤ) → List ℤ

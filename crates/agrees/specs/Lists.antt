@@ -1,4 +1,4 @@
--- Small facts of numbers and lists: what passes a test, and its numbers, in two parts of a list; what is made of all numbers up to some.
+-- Small facts of numbers and lists: what passes a test, and its numbers; what is made of all numbers up to some.
 use mathlib.Core.Path.{_≡_, refl, sym, ap, _∙_}
 use mathlib.Core.List.{List, [], _∷_, _++_, append-nil, append-assoc}
 use mathlib.Core.Bool.{Bool, true, false}
@@ -11,7 +11,6 @@ use borrow.Author.Tests.{eqb-true, eqb-false}
 use Rattle.format.specs.Reading.{pick}
 use Rattle.format.specs.Links.{those, numbersFrom, numbers, each}
 use Rattle.laws.specs.Order.{order}
-use Rattle.laws.specs.Gives.{Every}
 
 pub apart : (i j : ℕ) → (i ≡ j → ⊥) ⊎ (i ≡ j)
 apart i j = go (eqb i j) refl
@@ -23,42 +22,9 @@ apart i j = go (eqb i j) refl
 pub below : (j n : ℕ) → j ≤ n → (j ≡ n → ⊥) → j < n
 below j n h z = ⊎-elim (λ x. x) (λ x. absurd (z (omega arith))) (order (suc j) n)
 
--- ---- lists in two parts
-
-pub each-append : {A B : Type 0} (f : A → List B) (l m : List A) → each f (l ++ m) ≡ each f l ++ each f m
-each-append f [] m = refl
-each-append f (a ∷ l) m = ap (λ x. f a ++ x) (each-append f l m) ∙ sym (append-assoc (f a) (each f l) (each f m))
-
-pub every-append : {A : Type 0} (P : A → Type 0) (l m : List A) → Every P l → Every P m → Every P (l ++ m)
-every-append P [] m h k = k
-every-append P (a ∷ l) m h k = (h .0, every-append P l m (h .1) k)
-
 -- ---- those that pass, and their numbers
 
 module _ {A : Type 0} (p : A → Bool) where
-  pub those-append : (l m : List A) → those p (l ++ m) ≡ those p l ++ those p m
-  those-append [] m = refl
-  those-append (a ∷ l) m = go (p a) (those-append l m)
-    where
-      go : (t : Bool) → those p (l ++ m) ≡ those p l ++ those p m → pick t (a ∷ those p (l ++ m)) (those p (l ++ m)) ≡ pick t (a ∷ those p l) (those p l) ++ those p m
-      go true h = ap (λ (x : List A). a ∷ x) h
-      go false h = h
-
-  pub numbers-append : (i : ℕ) (l m : List A) → numbersFrom i p (l ++ m) ≡ numbersFrom i p l ++ numbersFrom (i + length l) p m
-  numbers-append i [] m = ap (λ (n : ℕ). numbersFrom n p m) (let e : i ≡ i + 0 = omega arith in e)
-  numbers-append i (a ∷ l) m = go (p a) (numbers-append (i + 1) l m ∙ ap (λ (n : ℕ). numbersFrom (i + 1) p l ++ numbersFrom n p m) e)
-    where
-      e : i + 1 + length l ≡ i + suc (length l)
-      e = omega arith
-
-      rest : List ℕ
-      rest = numbersFrom (i + suc (length l)) p m
-
-      go : (t : Bool) → numbersFrom (i + 1) p (l ++ m) ≡ numbersFrom (i + 1) p l ++ rest
-          → pick t (i ∷ numbersFrom (i + 1) p (l ++ m)) (numbersFrom (i + 1) p (l ++ m)) ≡ pick t (i ∷ numbersFrom (i + 1) p l) (numbersFrom (i + 1) p l) ++ rest
-      go true h = ap (λ (x : List ℕ). i ∷ x) h
-      go false h = h
-
   -- as many as their numbers
   pub those-long : (i : ℕ) (l : List A) → length (those p l) ≡ length (numbersFrom i p l)
   those-long i [] = refl

@@ -18,10 +18,10 @@ use Rattle.laws.specs.Safe.{and-true}
 use Rattle.inplace.specs.Rows.{wordOf, flagAt}
 use Rattle.inplace.specs.Links.{leadsTo, flagTwo, decidesAt, decidedIn}
 use Rattle.agrees.specs.Forms.{padded, stateLine, statesForm, edgesForm, rulesForm}
-use Rattle.agrees.specs.Rows.{rows-same}
 use Rattle.agrees.specs.Words.{noState, state-word, edge-word, rule-word, named-is, and-then}
 use Rattle.agrees.specs.Flags.{flag-one}
 use Rattle.agrees.specs.Lists.{apart, below}
+use Rattle.laws.specs.Rows.{rows-same}
 
 -- ---- flags words
 

@@ -23,11 +23,12 @@ use Rattle.inplace.specs.Held.{Held, with}
 use Rattle.inplace.specs.Links as code
 use Rattle.inplace.specs.Links.{Net, net, linked, ruleOf, stopFor, returning, returnsOf, Growing, growing, returnEdge, returned, returnsAlong, returnsFrom, derivedCounted}
 use Rattle.agrees.specs.Forms.{padded, statesForm, edgeLine, edgesForm, rulesForm}
-use Rattle.agrees.specs.Rows.{rows-same}
 use Rattle.agrees.specs.Words.{noEdge, state-word, edge-word, rule-word, named-is, and-then}
-use Rattle.agrees.specs.Lists.{each-append, numbers-append, those-long, those-at, upTo}
+use Rattle.agrees.specs.Lists.{those-long, those-at, upTo}
 use Rattle.agrees.specs.Derived.{hasReturn, returnOf, returnsAt, derived-by, at-more, count-all}
 use Rattle.agrees.specs.Chained.{linked-more}
+use Rattle.laws.specs.Lists.{each-append, numbers-append}
+use Rattle.laws.specs.Rows.{rows-same}
 
 -- ---- one edge's
 

@@ -1,5 +1,5 @@
 -- Records of one width, laid in a row with zeros behind them: one word read, one word stored, one record more.
-use mathlib.Core.Path.{_≡_, refl, sym, ap, _∙_, subst}
+use mathlib.Core.Path.{_≡_, sym, ap, _∙_}
 use mathlib.Core.List.{List, [], _∷_, _++_, append-assoc, append-nil}
 use Prim.Native.Nat.{ℕ, zero, suc, _+_, _-_, _*_, _≤_, _<_}
 use native.Mathlib.Omega.{arith}
@@ -10,23 +10,12 @@ use lib.Seq.{set-append-left, take-at, drop-at}
 use Rattle.format.specs.Links.{flat}
 use Rattle.format.specs.Tables.{numbered, zeros}
 use Rattle.laws.specs.Gives.{Every}
-use Rattle.laws.specs.Fits.{flat-long}
-use Rattle.laws.specs.Asked.{flat-at, numbered-at}
 use Rattle.laws.specs.Collect.{put}
 use Rattle.agrees.specs.Forms.{padded}
-
-abbrev pub Wide : ℕ → List ℤ → Type 0
-Wide w r = length r ≡ w
+use Rattle.laws.specs.Rows as laws
+use Rattle.laws.specs.Rows.{Wide, numbered-long, numbered-every, one-on, first-of, numbered-same, flat-long, numbered-at, rows-long}
 
 -- ---- numbered records
-
-pub numbered-long : {A B : Type 0} (i : ℕ) (f : ℕ → A → B) (l : List A) → length (numbered i f l) ≡ length l
-numbered-long i f [] = refl
-numbered-long i f (a ∷ l) = ap suc (numbered-long (i + 1) f l)
-
-pub numbered-wide : {A : Type 0} (w i : ℕ) (f : ℕ → A → List ℤ) (l : List A) → ((j : ℕ) (a : A) → length (f j a) ≡ w) → Every (Wide w) (numbered i f l)
-numbered-wide w i f [] h = tt
-numbered-wide w i f (a ∷ l) h = (h i a, numbered-wide w (i + 1) f l h)
 
 numbered-more : {A B : Type 0} (i : ℕ) (f : ℕ → A → B) (l : List A) (a : A) → numbered i f (l ++ (a ∷ [])) ≡ numbered i f l ++ (f (i + length l) a ∷ [])
 numbered-more i f [] a = ap (λ (n : ℕ). f n a ∷ []) (omega arith)
@@ -37,25 +26,6 @@ numbered-more {B} i f (x ∷ l) a =
 -- one member more
 pub rows-more : {A B : Type 0} (f : ℕ → A → B) (l : List A) (a : A) → numbered 0 f (l ++ (a ∷ [])) ≡ numbered 0 f l ++ (f (length l) a ∷ [])
 rows-more f l a = rw zero-add at (numbered-more 0 f l a)
-
--- counted from i + 1, the member j is the next of those counted from i
-one-on : {A : Type 0} (P : ℕ → A → Type 0) (i j : ℕ) (a : A) → P (i + suc j) a → P (i + 1 + j) a
-one-on P i j a h = let e : i + suc j ≡ i + 1 + j = omega arith in subst (λ (n : ℕ). P n a) e h
-
--- counted from i, the first
-first-of : {A : Type 0} (P : ℕ → A → Type 0) (i : ℕ) (a : A) → P (i + 0) a → P i a
-first-of P i a h = let e : i + 0 ≡ i = omega arith in subst (λ (n : ℕ). P n a) e h
-
--- the same records, of the members that there are
-numbered-same : {A B : Type 0} (d : A) (i : ℕ) (f g : ℕ → A → B) (l : List A) → ((j : ℕ) → j < length l → f (i + j) (getD l j d) ≡ g (i + j) (getD l j d)) → numbered i f l ≡ numbered i g l
-numbered-same d i f g [] h = refl
-numbered-same d i f g (a ∷ l) h =
-    let head = first-of (λ n x. f n x ≡ g n x) i a (h 0 (omega arith)) in
-    let rest = numbered-same d (i + 1) f g l (λ j k. one-on (λ n x. f n x ≡ g n x) i j (getD l j d) (h (suc j) (omega arith))) in
-    cc
-
-pub rows-same : {A B : Type 0} (d : A) (f g : ℕ → A → B) (l : List A) → ((j : ℕ) → j < length l → f j (getD l j d) ≡ g j (getD l j d)) → numbered 0 f l ≡ numbered 0 g l
-rows-same d f g l h = numbered-same d 0 f g l (λ j k. rw zero-add (h j k))
 
 set-numbered : {A B : Type 0} (d : A) (b : ℕ) (f g : ℕ → A → B) (l : List A) (i : ℕ) (r : B)
     → i < length l → ((j : ℕ) → j < length l → (j ≡ i → ⊥) → f (b + j) (getD l j d) ≡ g (b + j) (getD l j d)) → r ≡ g (b + i) (getD l i d)
@@ -131,15 +101,10 @@ put-more w n rs r h e b =
 
 -- ---- words of numbered records, with zeros behind them
 
-pub rows-long : {A : Type 0} (w : ℕ) (f : ℕ → A → List ℤ) (l : List A) → ((j : ℕ) (a : A) → length (f j a) ≡ w) → length (flat (numbered 0 f l)) ≡ w * length l
-rows-long w f l wide = flat-long w (numbered 0 f l) (numbered-wide w 0 f l wide) ∙ ap (λ (m : ℕ). w * m) (numbered-long 0 f l)
-
 -- Reading word k of record i; d is any other member.
 pub row-word : {A : Type 0} (w n : ℕ) (f : ℕ → A → List ℤ) (l : List A) (d : A) → ((j : ℕ) (a : A) → length (f j a) ≡ w) → (i k : ℕ) → i < length l → k < w
     → getD (padded n (numbered 0 f l)) (w * i + k) (pos 0) ≡ getD (f i (getD l i d)) k (pos 0)
-row-word w n f l d wide i k h m =
-    flat-at w (numbered 0 f l) (zeros (n - length (flat (numbered 0 f l)))) i k (numbered-wide w 0 f l wide) (omega (arith, numbered-long 0 f l)) m
-    ∙ ap (λ (x : List ℤ). getD x k (pos 0)) (rw zero-add at (numbered-at 0 f l i d [] h))
+row-word w n f l d wide i k h m = laws.row-word w f wide l (zeros (n - length (flat (numbered 0 f l)))) d i k h m
 
 -- Storing word k of record i: the rows g differ from the rows f in that word alone.
 -- Only of the members that there are (d is any other member) it must be so.
@@ -149,8 +114,8 @@ pub set-row : {A : Type 0} (w n : ℕ) (f g : ℕ → A → List ℤ) (l : List 
     → set (padded n (numbered 0 f l)) (w * i + k) v ≡ padded n (numbered 0 g l)
 set-row w n f g l d wf wg i k v h m o e =
     let row : getD (numbered 0 f l) i [] ≡ f i (getD l i d) = rw zero-add at (numbered-at 0 f l i d [] h) in
-    let long : length (flat (numbered 0 f l)) ≡ length (flat (numbered 0 g l)) = rows-long w f l wf ∙ sym (rows-long w g l wg) in
-    set-flat w (numbered 0 f l) (zeros (n - length (flat (numbered 0 f l)))) i k v (numbered-wide w 0 f l wf) (omega (arith, numbered-long 0 f l)) m
+    let long : length (flat (numbered 0 f l)) ≡ length (flat (numbered 0 g l)) = rows-long w f wf l ∙ sym (rows-long w g wg l) in
+    set-flat w (numbered 0 f l) (zeros (n - length (flat (numbered 0 f l)))) i k v (numbered-every (Wide w) 0 f l wf) (omega (arith, numbered-long 0 f l)) m
     ∙ ap (λ (x : List (List ℤ)). flat x ++ zeros (n - length (flat (numbered 0 f l))))
     (ap (λ (x : List ℤ). set (numbered 0 f l) i (set x k v)) row ∙ set-numbered d 0 f g l i (set (f i (getD l i d)) k v) h (λ j q z. rw zero-add (o j q z)) (rw zero-add e))
     ∙ ap (λ (x : ℕ). flat (numbered 0 g l) ++ zeros (n - x)) long

@@ -18,13 +18,14 @@ use Rattle.inplace.specs.Held.{with}
 use Rattle.inplace.specs.Rows.{stateRow}
 use Rattle.inplace.specs.Sections.{fieldOf, rowOf, counted, ended, sectionFrom, section}
 use Rattle.agrees.specs.Forms.{padded, statesForm, rulesForm}
-use Rattle.agrees.specs.Rows.{drop-zeros, rows-long}
+use Rattle.agrees.specs.Rows.{drop-zeros}
 use Rattle.agrees.specs.After.{given, after-same, after-after, same-first, times-long, times-map}
+use Rattle.laws.specs.Rows.{rows-long}
 
 -- so many records, laid from the first on in a table of zeros
 laid-all : {A : Type 0} (w N n : ℕ) (f : A → List ℤ) (l : List A) → ((a : A) → length (f a) ≡ w) → length l ≡ n → w * n ≤ N → laid w 0 n (zeros N) (listOf f l) ≡ padded N (listOf f l)
 laid-all w N n f l wide e h =
-    let long : length (flat (listOf f l)) ≡ w * n = rows-long w (λ i a. f a) l (λ j a. wide a) ∙ ap (λ (m : ℕ). w * m) e in
+    let long : length (flat (listOf f l)) ≡ w * n = rows-long w (λ i a. f a) (λ j a. wide a) l ∙ ap (λ (m : ℕ). w * m) e in
     let none : w * 0 ≡ 0 = omega arith in
     let all : w * (0 + n) ≡ length (flat (listOf f l)) = ap (λ (m : ℕ). w * m) (zero-add n) ∙ sym long in
     ap (λ (m : ℕ). take m (zeros N) ++ (flat (listOf f l) ++ drop (w * (0 + n)) (zeros N))) none

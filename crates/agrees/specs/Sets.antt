@@ -1,6 +1,6 @@
 -- The sets: what each keeps, one behind the other in the range table, and the sets' own records.
 use mathlib.Core.Path.{_≡_, refl, sym, ap, _∙_}
-use mathlib.Core.Bool.{Bool, true, false}
+use mathlib.Core.Bool.{Bool}
 use mathlib.Core.List.{List, [], _∷_, _++_, append-assoc, append-nil}
 use Prim.Native.Nat.{ℕ, zero, suc, _+_, _-_, _*_, _≤_}
 use native.Mathlib.Omega.{arith}
@@ -16,14 +16,15 @@ use Rattle.format.specs.Tables.{numbered, listOf, rangeWords, setRecords, zeros
 use Rattle.format.specs.declared.Counts.{Counts}
 use Rattle.laws.specs.Running.{after, run-bind, turns}
 use Rattle.laws.specs.Collect.{put}
-use Rattle.laws.specs.Gives.{Gives, Any, Every, gives-done, gives-bind, then, gives-count}
-use Rattle.laws.specs.Fits.{keep-short}
+use Rattle.laws.specs.Gives.{Any, gives-done, gives-bind, then, gives-count}
+use Rattle.laws.specs.Fits.{keep-short, sets-long, sets-wide, eof-long, flagged-room}
 use Rattle.laws.specs.Asked.{words-long}
 use Rattle.inplace.specs.Held.{Held, with}
 use Rattle.inplace.specs.Sets.{Keeping, keptAt, setDone, setOne, Sets2, sets2, keeping, setsCounted, setsEnd, setsFrom as filling, setting}
 use Rattle.agrees.specs.Forms.{padded}
-use Rattle.agrees.specs.Rows.{Wide, drop-zeros, rows-long, flat-more, put-more}
+use Rattle.agrees.specs.Rows.{drop-zeros, flat-more, put-more}
 use Rattle.agrees.specs.After.{Given, given, after-same, after-after, laid-first, same-first, after-map, times-long}
+use Rattle.laws.specs.Rows.{rows-long}
 
 -- ---- ranges
 
@@ -37,7 +38,7 @@ rows-behind i f (a ∷ l) k = ap (λ x. f a ++ x) (rows-behind (i + 1) f l k) �
 kept-behind : (a N : ℕ) (l k : List Range) → length k ≤ N → 2 * (length l + N) ≤ a → keptAt (length l) N k (padded a (listOf rangeWords l)) ≡ padded a (listOf rangeWords (l ++ k))
 kept-behind a N l k h b =
     let R : List ℤ = flat (listOf rangeWords l) in
-    let long : length R ≡ 2 * length l = rows-long 2 (λ i r. rangeWords r) l (λ j r. refl) in
+    let long : length R ≡ 2 * length l = rows-long 2 (λ i r. rangeWords r) (λ j r. refl) l in
     let all : flat (listOf rangeWords (l ++ k)) ≡ R ++ each rangeWords k = rows-behind 0 rangeWords l k in
     let more : length (each rangeWords k) ≡ 2 * length k = words-long k in
     let left : (2 * N - 2 * length k) + (a - length R - 2 * N) ≡ a - length (flat (listOf rangeWords (l ++ k))) = omega (arith, ap length all, length-append R (each rangeWords k)) in
@@ -56,31 +57,15 @@ records-more p (l ∷ ls) k =
     let e : p + length l + length (flat ls) ≡ p + length (l ++ flat ls) = omega (arith, length-append l (flat ls)) in
     ap (λ (x : List (List ℤ)). (pos p ∷ pos (length l) ∷ []) ∷ x) (records-more (p + length l) ls k ∙ ap (λ (n : ℕ). setRecords (p + length l) ls ++ ((pos n ∷ pos (length k) ∷ []) ∷ [])) e)
 
-records-long : (p : ℕ) (ls : List (List Range)) → length (setRecords p ls) ≡ length ls
-records-long p [] = refl
-records-long p (l ∷ ls) = ap suc (records-long (p + length l) ls)
-
-records-wide : (p : ℕ) (ls : List (List Range)) → Every (Wide 2) (setRecords p ls)
-records-wide p [] = tt
-records-wide p (l ∷ ls) = (refl, records-wide (p + length l) ls)
-
 record-behind : (b i : ℕ) (ls : List (List Range)) (k : List Range) → i ≡ length ls → 2 * i + 2 ≤ b → put 2 i (pos (length (flat ls)) ∷ pos (length k) ∷ []) (padded b (setRecords 0 ls)) ≡ padded b (setRecords 0 (ls ++ (k ∷ [])))
 record-behind b i ls k e h =
-    let q : i ≡ length (setRecords 0 ls) = e ∙ sym (records-long 0 ls) in
+    let q : i ≡ length (setRecords 0 ls) = e ∙ sym (sets-long 0 ls) in
     ap (λ (n : ℕ). put 2 n (pos (length (flat ls)) ∷ pos (length k) ∷ []) (padded b (setRecords 0 ls))) q
-    ∙ put-more 2 b (setRecords 0 ls) (pos (length (flat ls)) ∷ pos (length k) ∷ []) (records-wide 0 ls) refl (omega arith)
+    ∙ put-more 2 b (setRecords 0 ls) (pos (length (flat ls)) ∷ pos (length k) ∷ []) (sets-wide 0 ls) refl (omega arith)
     ∙ ap (λ (n : ℕ). padded b (setRecords 0 ls ++ ((pos n ∷ pos (length k) ∷ []) ∷ []))) (sym (zero-add (length (flat ls))))
     ∙ ap (padded b) (sym (records-more 0 ls k))
 
 -- ---- the turns
-
-eof-long : (f : Bool) → length (eof f) ≡ bit f
-eof-long true = refl
-eof-long false = refl
-
-flagged-room : (rooms : Table → ℕ) (kept n : ℕ) → Given rooms (λ f. kept + n + bit f ≤ rooms Ranges) (flagged kept n)
-unfolding flagged Gives
-flagged-room rooms kept n = λ p v x h. h
 
 sets-counted : (rooms : Table → ℕ) (n kept : ℕ) → Given rooms (λ ls. length ls ≡ n) (setsFrom n kept)
 unfolding setsFrom

@@ -16,8 +16,9 @@ use Rattle.laws.specs.Grows.{stop-new, stop-stays}
 use Rattle.inplace.specs.Rows.{wordOf, stored}
 use Rattle.inplace.specs.Sections.{stopsIn}
 use Rattle.agrees.specs.Forms.{padded, statesForm, ruleLine, rulesForm}
-use Rattle.agrees.specs.Rows.{rows-same, set-row}
+use Rattle.agrees.specs.Rows.{set-row}
 use Rattle.agrees.specs.Words.{noState, noRule, state-word}
+use Rattle.laws.specs.Rows.{rows-same}
 
 -- One state more: x, behind ss.
 module _ (m : ℕ) (rs : List Rule) (ss : List State) (x : State) where

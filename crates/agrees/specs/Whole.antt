@@ -2,7 +2,7 @@
 use mathlib.Core.Path.{_≡_, refl, sym, ap, _∙_}
 use mathlib.Core.Bool.{Bool, true, false}
 use mathlib.Core.List.{List, [], _++_}
-use Prim.Native.Nat.{ℕ, _+_, _*_, _≤_, _<_}
+use Prim.Native.Nat.{ℕ, _+_, _*_, _<_}
 use native.Mathlib.Omega.{arith}
 use lib.Dec.{ltb, leb}
 use lib.IntN.{ℤ}
@@ -11,7 +11,7 @@ use Rattle.format.specs.Reading.{Table, States, Edges, Ranges, Sets, Rules, Mod
 use Rattle.format.specs.Sets.{Range}
 use Rattle.format.specs.Sections.{State, Rule, Edge, Action, Read, bit, among, version, grammar, states, flags, rules, modes, sets, edges, decisions, actions}
 use Rattle.format.specs.Links.{flat, derived}
-use Rattle.format.specs.Tables.{width, room, listOf, edgesOf, rangeWords, setRecords, stateWord, actionWords, records, zeros, table, countsOf}
+use Rattle.format.specs.Tables.{room, listOf, edgesOf, rangeWords, setRecords, stateWord, actionWords, records, zeros, table, countsOf}
 use Rattle.format.specs.Decode.{returning, dialect}
 use Rattle.format.specs.declared.Counts.{Counts}
 use Rattle.laws.specs.Running.{after}
@@ -30,6 +30,7 @@ use Rattle.agrees.specs.Sets.{sets-are}
 use Rattle.agrees.specs.Edges.{edging-is, edges-listed}
 use Rattle.agrees.specs.Returns.{returns-is}
 use Rattle.agrees.specs.Precedence.{decided-is}
+use Rattle.laws.specs.Fits.{room-words}
 
 -- What the edges' table holds before tail calls are marked: "0 plain, 1 derived return edge".
 abbrev pub plain : ℕ → ℕ → ℕ
@@ -40,18 +41,6 @@ unfoldable pub unmarked : Read → (Table → ℕ) → Tables
 unmarked r lent =
     tables (table r lent States) (edgesForm (lent Edges) (plain (length (r .edges))) (edgesOf r)) (table r lent Ranges) (table r lent Sets) (table r lent Rules)
     (table r lent Modes) (table r lent Decisions) (table r lent Actions) (zeros (lent Scratch))
-
--- so many records as there is room for have their words
-room-words : (lent : Table → ℕ) (t : Table) (n : ℕ) → n ≤ room lent t → width t * n ≤ lent t
-room-words lent States n h = omega arith
-room-words lent Edges n h = omega arith
-room-words lent Ranges n h = omega arith
-room-words lent Sets n h = omega arith
-room-words lent Rules n h = omega arith
-room-words lent Modes n h = omega arith
-room-words lent Decisions n h = omega arith
-room-words lent Actions n h = omega arith
-room-words lent Scratch n h = omega arith
 
 -- ---- what follows each section
 

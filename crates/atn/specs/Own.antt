@@ -1,8 +1,8 @@
 -- The states that are safe for their own rule (laws: `Own`): what their edges say, and that no cycle has one.
 use mathlib.Core.Path.{_≡_, refl, sym, ap, _∙_}
 use mathlib.Core.Bool.{Bool, true, false, not, _&&_}
-use mathlib.Core.List.{List, [], _∷_}
-use Prim.Native.Nat.{ℕ, zero, suc, _<_}
+use mathlib.Core.List.{List}
+use Prim.Native.Nat.{ℕ, _<_}
 use native.Mathlib.Omega.{arith}
 use lib.Dec.{ltb, eqb}
 use lib.IntN.{ℤ, pos, negsuc}
@@ -10,8 +10,8 @@ use lib.ListN.{length, getD}
 use borrow.Author.Tests.{lt-ltb, ltb-true, eq-eqb, ne-eqb, eqb-true, eqb-false, not-true}
 use Rattle.format.specs.Reading.{pick}
 use Rattle.format.specs.Sections.{State, Edge, same, size}
-use Rattle.format.specs.Links.{every, leaving, stateAt, stopOf, stops, passable, targetOf, Safe, stop, step}
-use Rattle.laws.specs.Safe.{and-true}
+use Rattle.format.specs.Links.{leaving, stateAt, stopOf, stops, passable, targetOf, Safe, stop, step}
+use Rattle.laws.specs.Safe.{and-true, every-true, true-every}
 use Rattle.laws.specs.Own.{Own, own-of}
 use Rattle.atn.specs.Records.{noEdge}
 
@@ -43,15 +43,6 @@ pub record Way (ss : List State) (k : ℕ) (es : List Edge) (s : ℕ) : Type 0 w
 both : (a b : Bool) → pick a b false ≡ true → (a ≡ true) × (b ≡ true)
 both true b e = (refl, e)
 both false b e = absurd (let z : _≡_ {A = ℕ} 0 1 = cc in omega arith)
-
-every-true : {A : Type 0} (p : A → Bool) (d : A) (l : List A) → every p l ≡ true → (i : ℕ) → i < length l → p (getD l i d) ≡ true
-every-true p d [] e i h = absurd (omega arith)
-every-true p d (x ∷ l) e zero h = both (p x) (every p l) e .0
-every-true p d (x ∷ l) e (suc i) h = every-true p d l (both (p x) (every p l) e .1) i (omega arith)
-
-true-every : {A : Type 0} (p : A → Bool) (d : A) (l : List A) → ((i : ℕ) → i < length l → p (getD l i d) ≡ true) → every p l ≡ true
-true-every p d [] f = refl
-true-every p d (x ∷ l) f = rw (f 0 (omega arith)) (true-every p d l (λ i h. f (suc i) (omega arith)))
 
 pub same-self : (a : ℤ) → same a a ≡ true
 same-self (pos n) = eq-eqb n n refl

@@ -1,22 +1,20 @@
 -- Tables whose records stand in a row: that they are linked, and what the marks make of them.
-use mathlib.Core.Path.{_≡_, refl, sym, ap, _∙_, subst}
+use mathlib.Core.Path.{_≡_, refl, sym, ap, _∙_}
 use mathlib.Core.Bool.{Bool, true, false}
 use mathlib.Core.List.{List, [], _∷_, _++_, append-assoc}
-use Prim.Native.Nat.{ℕ, suc, _+_, _*_, _≤_, _<_, _^_}
+use Prim.Native.Nat.{ℕ, _+_, _*_, _≤_, _<_, _^_}
 use native.Mathlib.Omega.{arith}
-use native.Mathlib.Nat.{zero-add}
 use lib.IntN.{ℤ, pos}
 use lib.ListN.{length, getD, set, length-append}
 use lib.Seq.{set-at}
 use Rattle.format.specs.Reading.{pick}
-use Rattle.format.specs.Sections.{State, Rule, Edge, size}
+use Rattle.format.specs.Sections.{State, Rule, Edge}
 use Rattle.format.specs.Links.{flat, first, last, chain, next, stopOf, tail}
 use Rattle.format.specs.Tables.{numbered}
-use Rattle.laws.specs.Gives.{Every}
-use Rattle.laws.specs.Fits.{flat-long}
-use Rattle.laws.specs.Asked.{flat-at, numbered-at}
 use Rattle.atn.specs.Records.{noState, noEdge, edgeAt, Chained, Stopped, states-are, edges-are}
 use Rattle.atn.specs.Marks.{markFrom, marked}
+use Rattle.laws.specs.Rows.{rows-long, row-word}
+use Rattle.laws.specs.Sound.{Sound}
 
 -- The rows of states with the edges es, whatever their flags; of edges, whatever their marks; and of rules.
 abbrev pub stateRow : List Edge → (ℕ → ℤ) → ℕ → State → List ℤ
@@ -31,50 +29,15 @@ ruleRow ss R x = pos (x .start) ∷ stopOf ss (pos R) ∷ x .token ∷ []
 -- ---- words of rows
 
 module _ {A : Type 0} (w : ℕ) (f : ℕ → A → List ℤ) (wide : (i : ℕ) (a : A) → length (f i a) ≡ w) where
-  all-wide : (i : ℕ) (l : List A) → Every (λ (r : List ℤ). length r ≡ w) (numbered i f l)
-  all-wide i [] = tt
-  all-wide i (a ∷ l) = (wide i a, all-wide (i + 1) l)
-
-  all-long : (i : ℕ) (l : List A) → length (numbered i f l) ≡ length l
-  all-long i [] = refl
-  all-long i (a ∷ l) = ap suc (all-long (i + 1) l)
-
-  row-word : (l : List A) (zs : List ℤ) (d : A) (i k : ℕ) → i < length l → k < w → getD (flat (numbered 0 f l) ++ zs) (w * i + k) (pos 0) ≡ getD (f i (getD l i d)) k (pos 0)
-  row-word l zs d i k h b =
-      flat-at w (numbered 0 f l) zs i k (all-wide 0 l) (omega (arith, all-long 0 l)) b
-      ∙ ap (λ (r : List ℤ). getD r k (pos 0)) (numbered-at 0 f l i d [] h ∙ ap (λ (n : ℕ). f n (getD l i d)) (omega arith))
-
   first-word : (l : List A) (zs : List ℤ) (d : A) (i : ℕ) → i < length l → 0 < w → getD (flat (numbered 0 f l) ++ zs) (w * i) (pos 0) ≡ getD (f i (getD l i d)) 0 (pos 0)
   first-word l zs d i h b =
       let e : w * i ≡ w * i + 0 = omega arith in
-      ap (λ (n : ℕ). getD (flat (numbered 0 f l) ++ zs) n (pos 0)) e ∙ row-word l zs d i 0 h b
-
-  pub rows-long : (l : List A) → length (flat (numbered 0 f l)) ≡ w * length l
-  rows-long l = flat-long w (numbered 0 f l) (all-wide 0 l) ∙ ap (λ (n : ℕ). w * n) (all-long 0 l)
+      ap (λ (n : ℕ). getD (flat (numbered 0 f l) ++ zs) n (pos 0)) e ∙ row-word w f wide l zs d i 0 h b
 
   rows-fit : (l : List A) (zs : List ℤ) → w * length l ≤ length (flat (numbered 0 f l) ++ zs)
-  rows-fit l zs = omega (arith, length-append (flat (numbered 0 f l)) zs, rows-long l)
-
--- rows that are the same, of the members that there are
-numbered-same : {A B : Type 0} (d : A) (f g : ℕ → A → B) (i : ℕ) (l : List A) → ((j : ℕ) → j < length l → f (i + j) (getD l j d) ≡ g (i + j) (getD l j d)) → numbered i f l ≡ numbered i g l
-numbered-same d f g i [] h = refl
-numbered-same {A} {B} d f g i (a ∷ l) h =
-    let p : i + 0 ≡ i = omega arith in
-    let head : f i a ≡ g i a = subst (λ (n : ℕ). f n a ≡ g n a) p (h 0 (omega arith)) in
-    let rest =
-    numbered-same d f g (i + 1) l (λ j k.
-    let q : i + suc j ≡ i + 1 + j = omega arith in subst (λ (n : ℕ). f n (getD l j d) ≡ g n (getD l j d)) q (h (suc j) (omega arith))) in
-    cc
-
-pub rows-same : {A B : Type 0} (d : A) (f g : ℕ → A → B) (l : List A) → ((j : ℕ) → j < length l → f j (getD l j d) ≡ g j (getD l j d)) → numbered 0 f l ≡ numbered 0 g l
-rows-same d f g l h = numbered-same d f g 0 l (λ j k. rw zero-add (h j k))
+  rows-fit l zs = omega (arith, length-append (flat (numbered 0 f l)) zs, rows-long w f wide l)
 
 -- ---- such tables are linked
-
--- What is asked of an edge: its source is one of n states, and a rule edge has a follow state.
-pub record Sound (n : ℕ) (e : Edge) : Type 0 where
-  pub listed : e .source < n
-  pub follow : e .kind ≡ 3 → e .q ≡ pos (size (e .q))
 
 module _ (ss : List State) (es : List Edge) (flags : ℕ → ℤ) (marks : ℕ → Edge → ℤ) (zs ys : List ℤ) where
   abbrev st : List ℤ
@@ -83,7 +46,7 @@ module _ (ss : List State) (es : List Edge) (flags : ℕ → ℤ) (marks : ℕ �
   abbrev ed : List ℤ
   ed = flat (numbered 0 (edgeRow es marks) es) ++ ys
 
-  pub chained-rows : length ss < 2 ^ 31 → length es < 2 ^ 31 → ((i : ℕ) → i < length es → Sound (length ss) (edgeAt es i)) → Chained ss es (length ss) (length es) st ed
+  pub chained-rows : {sets : ℕ} → length ss < 2 ^ 31 → length es < 2 ^ 31 → ((i : ℕ) → i < length es → Sound (length ss) sets (edgeAt es i)) → Chained ss es (length ss) (length es) st ed
   chained-rows few few′ sound =
       record {
         all-states = refl;

@@ -13,7 +13,7 @@ use Rattle.format.specs.Reading.{pick}
 use Rattle.format.specs.Sections.{State, Edge, same, size}
 use Rattle.format.specs.Links.{first, chain, next, leaving, names, stateAt, stopOf, stops, targetOf}
 use Rattle.laws.specs.Safe.{and-true}
-use Rattle.laws.specs.Own.{Own}
+use Rattle.laws.specs.Own.{Own, same-true}
 use Rattle.laws.specs.Chains.{Mem, next-in}
 use Rattle.tables.specs.Words.{spot, numberAt, spot-word, spot-one, names-number}
 use Rattle.atn.specs.Records.{noEdge, edgeAt, stateIn, statesOf, Chained, Stopped, rows-long, state-at}
@@ -32,12 +32,6 @@ pub record Plain (ss : List State) (s : ℕ) (e : Edge) : Type 0 where
   pub free : e .kind ≡ 1
   pub listed : e .target < length ss
   pub ruled : ruleAt ss (e .target) ≡ ruleAt ss s
-
-same-true : (a b : ℤ) → same a b ≡ true → a ≡ b
-same-true (pos a) (pos b) e = ap pos (eqb-true a b e)
-same-true (pos a) (negsuc b) e = absurd (let z : _≡_ {A = ℕ} 0 1 = cc in omega arith)
-same-true (negsuc a) (pos b) e = absurd (let z : _≡_ {A = ℕ} 0 1 = cc in omega arith)
-same-true (negsuc a) (negsuc b) e = ap negsuc (eqb-true a b e)
 
 module _ (ss : List State) (s : ℕ) (e : Edge) where
   plain-some : Plain ss s e → plainTarget ss s e ≡ e .target

@@ -1,13 +1,13 @@
 -- Demand 3, of `decode` itself. `Decodes t ws 0 r u` is decode's statement: lent the tables t and the words ws, it answers r and leaves
 -- the tables u. Each part takes two calls and says how the second answers, whatever its tables held before.
-use mathlib.Core.Path.{_≡_, refl, sym, ap, _∙_, subst}
+use mathlib.Core.Path.{_≡_, refl, sym, ap, _∙_}
 use mathlib.Core.List.{List, _++_}
-use Prim.Native.Nat.{ℕ, _+_, _-_, _≤_, _<_}
+use Prim.Native.Nat.{ℕ, _-_, _≤_, _<_}
 use native.Mathlib.Omega.{arith}
 use native.Mathlib.Nat.{zero-add}
 use lib.IntN.{ℤ}
 use lib.ListN.{take}
-use Rattle.format.specs.Reading.{Table, States, Edges, Ranges, Sets, Rules, Modes, Decisions, Actions, Scratch, ended}
+use Rattle.format.specs.Reading.{Table, ended}
 use Rattle.format.specs.Tables.{zeros}
 use Rattle.format.specs.Decode.{Answer, decoded}
 use Rattle.format.specs.declared.Refusal.{Refusal}

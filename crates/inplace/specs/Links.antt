@@ -1,12 +1,11 @@
 -- Edges, chained as they come; return edges; precedence decisions. A stored number that is followed is tested first.
-use mathlib.Core.List.{List, [], _∷_, _++_}
-use mathlib.Core.Bool.{Bool, true, false, _&&_}
-use Prim.Native.Nat.{ℕ, zero, suc, _+_, _*_, _/_, _%_}
+use mathlib.Core.List.{List}
+use mathlib.Core.Bool.{Bool, _&&_}
+use Prim.Native.Nat.{ℕ, zero, suc, _+_, _/_, _%_}
 use lib.Dec.{ltb, eqb}
 use lib.IntN.{ℤ, pos}
-use lib.ListN.{length}
-use Rattle.format.specs.Reading.{Table, Edges, Prog, done, need, here, _>>=_, pick, count}
-use Rattle.format.specs.Sections.{Edge, edgeOf, none, same, size, bit, edge}
+use Rattle.format.specs.Reading.{Edges, Prog, done, need, here, _>>=_, pick, count}
+use Rattle.format.specs.Sections.{Edge, edgeOf, same, size, bit, edge}
 use Rattle.format.specs.Links.{names}
 use Rattle.format.specs.declared.Counts.{Counts}
 use Rattle.laws.specs.Running.{turns}

@@ -1,14 +1,12 @@
 -- Records in a flat table: word k of record i of width w stands at w * i + k.
 use mathlib.Core.List.{List, [], _∷_}
-use mathlib.Core.Bool.{Bool, true, false, _&&_}
 use Prim.Native.Nat.{ℕ, _+_, _*_}
 use lib.Bits.{bitOr}
 use lib.Dec.{ltb}
 use lib.IntN.{ℤ, pos, negsuc}
 use lib.ListN.{getD, set}
 use Rattle.format.specs.Reading.{pick}
-use Rattle.format.specs.Sections.{State, Edge, none, size}
-use Rattle.format.specs.Links.{names}
+use Rattle.format.specs.Sections.{State, Edge, none}
 
 abbrev pub wordOf : ℕ → List ℤ → ℕ → ℕ → ℤ
 wordOf w t i k = getD t (w * i + k) (pos 0)

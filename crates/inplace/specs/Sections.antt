@@ -1,6 +1,6 @@
 -- The header, and the sections that fill one table: states, rules, modes, decisions, actions; then flags and stops.
 use mathlib.Core.List.{List, [], _∷_}
-use mathlib.Core.Bool.{Bool, true, false, _&&_}
+use mathlib.Core.Bool.{_&&_}
 use Prim.Native.Nat.{ℕ, zero, suc, _+_}
 use lib.IntN.{ℤ, pos}
 use Rattle.format.specs.Reading.{Table, States, Edges, Ranges, Sets, Rules, Modes, Decisions, Actions, Scratch, Prog, done, here, _>>=_, _>>_, pick, get, index, count}

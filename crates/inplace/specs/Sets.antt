@@ -4,7 +4,7 @@ use mathlib.Core.Bool.{Bool}
 use Prim.Native.Nat.{ℕ, _+_, _-_, _*_}
 use lib.IntN.{ℤ, pos}
 use lib.ListN.{length, take, drop}
-use Rattle.format.specs.Reading.{Table, Prog, done, here, _>>=_, index, count, times}
+use Rattle.format.specs.Reading.{Prog, done, here, _>>=_, index, count, times}
 use Rattle.format.specs.Sets.{Range, keep}
 use Rattle.format.specs.Sections.{bit, eof, flagged, interval}
 use Rattle.format.specs.Links.{each}

@@ -4,52 +4,25 @@ use mathlib.Core.Bool.{true, false}
 use mathlib.Core.List.{List, [], _∷_, _++_, append-assoc}
 use Prim.Native.Nat.{ℕ, zero, suc, _+_, _-_, _*_, _/_, _≤_, _<_}
 use native.Mathlib.Omega.{arith}
-use native.Mathlib.Nat.{mul-suc, mul-zero}
 use lib.Dec.{ltb, leb}
 use lib.IntN.{ℤ, pos}
-use lib.ListN.{length, getD, take, drop, length-append, length-replicate, List·getD-append}
-use lib.Seq.{getD-append-add, take-at, drop-at, drop-cons}
+use lib.ListN.{length, getD, take, drop, length-append, length-replicate}
+use lib.Seq.{take-at, drop-at, drop-cons}
 use borrow.Author.Tests.{lt-ltb, le-leb, lt-leb}
 use Rattle.format.specs.Reading.{Table, States, Edges, Ranges, Sets}
 use Rattle.format.specs.Sets.{Range}
 use Rattle.format.specs.Sections.{State, Edge, Read, edgeOf, stateOf, none}
 use Rattle.format.specs.Links.{each, flat, first, chain, next}
-use Rattle.format.specs.Tables.{width, numbered, listOf, edgesOf, stateWords, edgeWords, rangeWords, setRecords, records, zeros, table}
-use Rattle.format.specs.Questions.{walk, nthEdge, setPart, partOf}
+use Rattle.format.specs.Tables.{width, listOf, edgesOf, stateWords, edgeWords, rangeWords, setRecords, records, zeros, table}
+use Rattle.format.specs.Questions.{missing, fits, walk, nthEdge, inside, setPart, partStart, partLength, partOf}
 use Rattle.format.specs.declared.NthEdge.the-variants as E
 use Rattle.format.specs.declared.SetPart.the-variants as P
-use Rattle.laws.specs.Gives.{Every}
-use Rattle.laws.specs.Fits.{records-wide, flat-long}
+use Rattle.laws.specs.Fits.{sets-long, records-wide}
 use Rattle.laws.specs.Chains.{chain-are, next-in, at-mem}
+use Rattle.laws.specs.Rows.{numbered-long, numbered-at, flat-list, flat-long, flat-at}
+use Rattle.laws.specs.Lists.{each-append}
 
 -- ---- a word of a record, in a table
-
-abbrev Wide : ℕ → List ℤ → Type 0
-Wide w r = length r ≡ w
-
--- records of w words in a row: word k of record i
-pub flat-at : (w : ℕ) (rs : List (List ℤ)) (zs : List ℤ) (i k : ℕ) → Every (Wide w) rs → i < length rs → k < w → getD (flat rs ++ zs) (w * i + k) (pos 0) ≡ getD (getD rs i []) k (pos 0)
-flat-at w [] zs i k h l m = absurd (omega arith)
-flat-at w (r ∷ rs) zs zero k h l m =
-    let e : w * 0 + k ≡ k = omega (arith, mul-zero w) in
-    ap (λ (n : ℕ). getD ((r ++ flat rs) ++ zs) n (pos 0)) e
-    ∙ List·getD-append (r ++ flat rs) zs (pos 0) k (omega (arith, h .0, length-append r (flat rs)))
-    ∙ List·getD-append r (flat rs) (pos 0) k (omega (arith, h .0))
-flat-at w (r ∷ rs) zs (suc i) k h l m =
-    let e : w * suc i + k ≡ length r + (w * i + k) = omega (arith, mul-suc w i, h .0) in
-    ap (λ (n : ℕ). getD ((r ++ flat rs) ++ zs) n (pos 0)) e
-    ∙ ap (λ (x : List ℤ). getD x (length r + (w * i + k)) (pos 0)) (append-assoc r (flat rs) zs)
-    ∙ getD-append-add r (flat rs ++ zs) (w * i + k) (pos 0)
-    ∙ flat-at w rs zs i k (h .1) (omega arith) m
-
-pub numbered-at : {A B : Type 0} (i : ℕ) (f : ℕ → A → B) (l : List A) (j : ℕ) (a : A) (b : B) → j < length l → getD (numbered i f l) j b ≡ f (i + j) (getD l j a)
-numbered-at i f [] j a b h = absurd (omega arith)
-numbered-at i f (x ∷ l) zero a b h = ap (λ (n : ℕ). f n x) (omega arith)
-numbered-at i f (x ∷ l) (suc j) a b h = numbered-at (i + 1) f l j a b (omega arith) ∙ ap (λ (n : ℕ). f n (getD l j a)) (omega arith)
-
-numbered-long : {A B : Type 0} (i : ℕ) (f : ℕ → A → B) (l : List A) → length (numbered i f l) ≡ length l
-numbered-long i f [] = refl
-numbered-long i f (a ∷ l) = ap suc (numbered-long (i + 1) f l)
 
 first-at : (l : List ℕ) (k : ℕ) → k < length l → first (drop k l) ≡ pos (getD l k 0)
 first-at l k h = ap first (drop-cons l k 0 h)
@@ -57,7 +30,7 @@ first-at l k h = ap first (drop-cons l k 0 h)
 abbrev noState : State
 noState = stateOf 0 none none none
 
-abbrev noEdge : Edge
+abbrev pub noEdge : Edge
 noEdge = edgeOf 0 0 0 (pos 0) (pos 0) (pos 0)
 
 -- ---- an accepted list r, in the lent slices
@@ -75,6 +48,31 @@ module _ (lent : Table → ℕ) (r : Read) (fit : (t : Table) → length (flat (
   -- as many whole records as there are
   holds : (t : Table) (n : ℕ) → length (records r t) ≡ n → width t * n ≤ length (table r lent t)
   holds t n e = omega (arith, fit t, table-long t, flat-long (width t) (records r t) (records-wide r t), ap (λ (m : ℕ). width t * m) e)
+
+  -- so the counts are right
+  pub states-fit : fits States (length (r .states)) (table r lent States) ≡ true
+  unfolding records
+  states-fit =
+      let x : 8 * length (r .states) ≤ length (table r lent States) = holds States (length (r .states)) (numbered-long 0 (stateWords r (edgesOf r)) (r .states)) in
+      le-leb (length (r .states)) (length (table r lent States) / 8) (omega arith)
+
+  pub edges-fit : fits Edges (length (edgesOf r)) (table r lent Edges) ≡ true
+  unfolding records
+  edges-fit =
+      let x : 8 * length (edgesOf r) ≤ length (table r lent Edges) = holds Edges (length (edgesOf r)) (numbered-long 0 (edgeWords r (edgesOf r)) (edgesOf r)) in
+      le-leb (length (edgesOf r)) (length (table r lent Edges) / 8) (omega arith)
+
+  pub sets-fit : fits Sets (length (r .sets)) (table r lent Sets) ≡ true
+  unfolding records
+  sets-fit =
+      let x : 2 * length (r .sets) ≤ length (table r lent Sets) = holds Sets (length (r .sets)) (sets-long 0 (r .sets)) in
+      le-leb (length (r .sets)) (length (table r lent Sets) / 2) (omega arith)
+
+  pub ranges-fit : fits Ranges (length (flat (r .sets))) (table r lent Ranges) ≡ true
+  unfolding records
+  ranges-fit =
+      let x : 2 * length (flat (r .sets)) ≤ length (table r lent Ranges) = holds Ranges (length (flat (r .sets))) (numbered-long 0 (λ i a. rangeWords a) (flat (r .sets))) in
+      le-leb (length (flat (r .sets))) (length (table r lent Ranges) / 2) (omega arith)
 
   pub state-word : (s k : ℕ) → s < length (r .states) → k < 8 → getD (table r lent States) (8 * s + k) (pos 0) ≡ getD (stateWords r (edgesOf r) s (getD (r .states) s noState)) k (pos 0)
   unfolding records
@@ -113,31 +111,32 @@ module _ (lent : Table → ℕ) (r : Read) (fit : (t : Table) → length (flat (
         rw (lt-ltb (getD c j 0) (length (edgesOf r)) (member j (omega arith) .0), next-word j (omega arith))
         (walk-chain k (suc j) (omega arith) ∙ ap (λ (n : ℕ). E.Edge (pos (getD c n 0))) e)
 
+  -- a listed state's edge count is its chain's length
+  pub count-word : (s : ℕ) → s < length (r .states) → getD (table r lent States) (8 * s + 7) (pos 0) ≡ pos (length (chain (edgesOf r) s))
+  count-word s h = state-word s 7 h (omega arith)
+
   -- "the number of a state's n-th edge" is the n-th of its chain
   pub nth-edge : (s k : ℕ) → s < length (r .states) → k < length (chain (edgesOf r) s)
       → nthEdge (table r lent States) (length (r .states)) (table r lent Edges) (length (edgesOf r)) (pos s) (pos k) ≡ E.Edge (pos (getD (chain (edgesOf r) s) k 0))
-  unfolding nthEdge records
+  unfolding nthEdge
   nth-edge s k h l =
-      let x : 8 * length (r .states) ≤ length (table r lent States) = holds States (length (r .states)) (numbered-long 0 (stateWords r (edgesOf r)) (r .states)) in
-      let y : 8 * length (edgesOf r) ≤ length (table r lent Edges) = holds Edges (length (edgesOf r)) (numbered-long 0 (edgeWords r (edgesOf r)) (edgesOf r)) in
-      let f1 : leb (length (r .states)) (length (table r lent States) / 8) ≡ true = le-leb (length (r .states)) (length (table r lent States) / 8) (omega arith) in
-      let f2 : leb (length (edgesOf r)) (length (table r lent Edges) / 8) ≡ true = le-leb (length (edgesOf r)) (length (table r lent Edges) / 8) (omega arith) in
       let f3 : ltb s (length (r .states)) ≡ true = lt-ltb s (length (r .states)) h in
-      let f4 : getD (table r lent States) (8 * s + 7) (pos 0) ≡ pos (length (chain (edgesOf r) s)) = state-word s 7 h (omega arith) in
       let f5 : leb (length (chain (edgesOf r) s)) k ≡ false = lt-leb (length (chain (edgesOf r) s)) k l in
       let f6 : getD (table r lent States) (8 * s + 5) (pos 0) ≡ pos (getD (chain (edgesOf r) s) 0 0) = state-word s 5 h (omega arith) ∙ first-at (chain (edgesOf r) s) 0 (omega arith) in
       let f7 : leb 0 k ≡ true = le-leb 0 k (omega arith) in
-      rw (f1, f2, f3, f4, f5, f6, f7) (walk-chain s k 0 (omega arith) ∙ ap (λ (n : ℕ). E.Edge (pos (getD (chain (edgesOf r) s) n 0))) (omega arith))
+      rw (states-fit, edges-fit, f3, count-word s h, f5, f6, f7) (walk-chain s k 0 (omega arith) ∙ ap (λ (n : ℕ). E.Edge (pos (getD (chain (edgesOf r) s) n 0))) (omega arith))
+
+  -- and from its edge count on there is none
+  pub nth-behind : (s k : ℕ) → s < length (r .states) → length (chain (edgesOf r) s) ≤ k
+      → nthEdge (table r lent States) (length (r .states)) (table r lent Edges) (length (edgesOf r)) (pos s) (pos k) ≡ E.Denied (missing (pos k))
+  unfolding nthEdge
+  nth-behind s k h l =
+      let f3 : ltb s (length (r .states)) ≡ true = lt-ltb s (length (r .states)) h in
+      let f5 : leb (length (chain (edgesOf r) s)) k ≡ true = le-leb (length (chain (edgesOf r) s)) k l in
+      let f7 : leb 0 k ≡ true = le-leb 0 k (omega arith) in
+      rw (states-fit, edges-fit, f3, count-word s h, f5, f7) refl
 
 -- ---- sets
-
-each-append : {A B : Type 0} (f : A → List B) (l m : List A) → each f (l ++ m) ≡ each f l ++ each f m
-each-append f [] m = refl
-each-append f (a ∷ l) m = ap (λ x. f a ++ x) (each-append f l m) ∙ sym (append-assoc (f a) (each f l) (each f m))
-
-flat-list : {A B : Type 0} (i : ℕ) (f : A → List B) (l : List A) → flat (numbered i (λ j a. f a) l) ≡ each f l
-flat-list i f [] = refl
-flat-list i f (a ∷ l) = ap (λ x. f a ++ x) (flat-list (i + 1) f l)
 
 pub words-long : (l : List Range) → length (each rangeWords l) ≡ 2 * length l
 words-long [] = refl
@@ -153,10 +152,6 @@ sets-at b [] k h = absurd (omega arith)
 sets-at b (l ∷ ls) zero h = ap (λ (n : ℕ). pos n ∷ pos (length l) ∷ []) (omega arith)
 sets-at b (l ∷ ls) (suc k) h = sets-at (b + length l) ls k (omega arith) ∙ ap (λ (n : ℕ). pos n ∷ pos (length (getD ls k [])) ∷ []) (omega (arith, length-append l (flat (take k ls))))
 
-sets-long : (k : ℕ) (ls : List (List Range)) → length (setRecords k ls) ≡ length ls
-sets-long k [] = refl
-sets-long k (l ∷ ls) = ap suc (sets-long (k + length l) ls)
-
 module _ (lent : Table → ℕ) (r : Read) (fit : (t : Table) → length (flat (records r t)) ≤ lent t) (k : ℕ) (h : k < length (r .sets)) where
   abbrev start : ℕ
   start = length (flat (take k (r .sets)))
@@ -171,21 +166,19 @@ module _ (lent : Table → ℕ) (r : Read) (fit : (t : Table) → length (flat (
   inside-all : start + length kept ≤ length (flat (r .sets))
   inside-all = omega (arith, ap length (split (r .sets) k h), length-append (flat (take k (r .sets))) (kept ++ flat (drop (suc k) (r .sets))), length-append kept (flat (drop (suc k) (r .sets))))
 
-  -- "a set's ranges as a part of the lent table"
-  pub set-part : setPart (table r lent Sets) (length (r .sets)) (table r lent Ranges) (length (flat (r .sets))) (pos k) ≡ P.Part (2 * start) (2 * length kept)
-  unfolding setPart records
-  set-part =
-      let x : 2 * length (r .sets) ≤ length (table r lent Sets) = holds lent r fit Sets (length (r .sets)) (sets-long 0 (r .sets)) in
-      let y : 2 * length (flat (r .sets)) ≤ length (table r lent Ranges) = holds lent r fit Ranges (length (flat (r .sets))) (numbered-long 0 (λ i a. rangeWords a) (flat (r .sets))) in
-      let f1 : leb (length (r .sets)) (length (table r lent Sets) / 2) ≡ true = le-leb (length (r .sets)) (length (table r lent Sets) / 2) (omega arith) in
-      let f2 : leb (length (flat (r .sets))) (length (table r lent Ranges) / 2) ≡ true = le-leb (length (flat (r .sets))) (length (table r lent Ranges) / 2) (omega arith) in
-      let f3 : ltb k (length (r .sets)) ≡ true = lt-ltb k (length (r .sets)) h in
-      let f4 : getD (table r lent Sets) (2 * k + 0) (pos 0) ≡ pos start = set-word 0 (omega arith) in
-      let f5 : getD (table r lent Sets) (2 * k + 1) (pos 0) ≡ pos (length kept) = set-word 1 (omega arith) in
+  pub set-inside : inside (table r lent Sets) (length (flat (r .sets))) (pos k) ≡ true
+  set-inside =
       let f6 : leb 0 start ≡ true = le-leb 0 start (omega arith) in
       let f7 : leb 0 (length kept) ≡ true = le-leb 0 (length kept) (omega arith) in
       let f8 : leb (start + length kept) (length (flat (r .sets))) ≡ true = le-leb (start + length kept) (length (flat (r .sets))) inside-all in
-      rw (f1, f2, f3, f4, f5, f6, f7, f8) refl
+      rw (set-word 0 (omega arith), set-word 1 (omega arith), f6, f7, f8) refl
+
+  -- "a set's ranges as a part of the lent table"
+  pub set-part : setPart (table r lent Sets) (length (r .sets)) (table r lent Ranges) (length (flat (r .sets))) (pos k) ≡ P.Part (2 * start) (2 * length kept)
+  unfolding setPart
+  set-part =
+      let f3 : ltb k (length (r .sets)) ≡ true = lt-ltb k (length (r .sets)) h in
+      rw (sets-fit lent r fit, ranges-fit lent r fit, f3, set-inside, set-word 0 (omega arith), set-word 1 (omega arith)) refl
 
   -- and the part is the words of what the set keeps
   pub part-is : partOf (table r lent Ranges) (P.Part (2 * start) (2 * length kept)) ≡ each rangeWords kept
@@ -203,3 +196,7 @@ module _ (lent : Table → ℕ) (r : Read) (fit : (t : Table) → length (flat (
       ap (λ (x : List ℤ). take (2 * length kept) (drop (2 * start) x)) e
       ∙ ap (λ (x : List ℤ). take (2 * length kept) x) (drop-at A (B ++ (C ++ zs)) (2 * start) (words-long (flat (take k (r .sets)))))
       ∙ take-at B (C ++ zs) (2 * length kept) (words-long kept)
+
+  -- also where its first word and its length are read from the set's record
+  pub part-words : partOf (table r lent Ranges) (P.Part (partStart (table r lent Sets) (pos k)) (partLength (table r lent Sets) (pos k))) ≡ each rangeWords kept
+  part-words = rw (set-word 0 (omega arith), set-word 1 (omega arith)) part-is

@@ -27,7 +27,7 @@ pub record Accepting (lent : Table → ℕ) (ws : List ℤ) (at : ℕ) (c : Coun
   pub ran : run dialect ws (room lent) at ≡ ok read behind
   pub counted : countsOf read (behind - at) ≡ c
 
-accepting : (lent : Table → ℕ) (ws : List ℤ) (at : ℕ) (c : Counts) → decoded lent ws at .told ≡ D.Accepted c → Accepting lent ws at c
+pub accepting : (lent : Table → ℕ) (ws : List ℤ) (at : ℕ) (c : Counts) → decoded lent ws at .told ≡ D.Accepted c → Accepting lent ws at c
 unfolding decoded
 accepting lent ws at c e = go (run dialect ws (room lent) at) refl e
   where

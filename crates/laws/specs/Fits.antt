@@ -1,20 +1,20 @@
 -- Every accepted list's records fit their tables: what a decode leaves in a lent slice is as long as the slice.
-use mathlib.Core.Path.{_≡_, refl, sym, ap, _∙_}
+use mathlib.Core.Path.{_≡_, refl, ap, _∙_}
 use mathlib.Core.List.{List, [], _∷_, _++_}
 use mathlib.Core.Bool.{Bool, true, false}
 use Prim.Native.Nat.{ℕ, zero, suc, _+_, _-_, _*_, _≤_}
 use native.Mathlib.Omega.{arith}
-use native.Mathlib.Nat.{mul-suc}
 use lib.IntN.{ℤ, pos}
 use lib.ListN.{length, length-append, length-replicate}
 use Rattle.format.specs.Reading.{Table, States, Edges, Ranges, Sets, Rules, Modes, Decisions, Actions, Scratch, Outcome, ok, no, run, times, get, index, count}
 use Rattle.format.specs.Sets.{Range, lower, upper, add, addAny, keepOnto, keep}
 use Rattle.format.specs.Sections.{State, Edge, Read, bit, eof, version, grammar, state, states, flags, rule, rules, modes, interval, flagged, set, setsFrom, sets, edges, decisions, action, actions}
 use Rattle.format.specs.Links.{flat, derived}
-use Rattle.format.specs.Tables.{width, room, numbered, derivedOf, edgesOf, stateWords, edgeWords, rangeWords, setRecords, ruleWords, stateWord, actionWords, records, zeros, table}
+use Rattle.format.specs.Tables.{width, room, derivedOf, edgesOf, stateWords, edgeWords, rangeWords, setRecords, ruleWords, stateWord, actionWords, records, zeros, table}
 use Rattle.format.specs.Decode.{returning, dialect, answer, decoded}
 use Rattle.laws.specs.Kept.{Way, way, before, behind, joined}
 use Rattle.laws.specs.Gives.{Gives, Any, Every, gives-any, gives-done, gives-bind, then, gives-run, gives-times, gives-count, gives-counted, weaker}
+use Rattle.laws.specs.Rows.{Wide, numbered-long, numbered-every, flat-long}
 
 -- ---- a set keeps no more ranges than it is given
 
@@ -36,7 +36,7 @@ onto-short (r ∷ rs) l = omega (arith, onto-short rs (addAny r l), add-short l 
 pub keep-short : (rs : List Range) → length (keep rs) ≤ length rs
 keep-short rs = omega (arith, onto-short rs [])
 
-eof-long : (b : Bool) → length (eof b) ≡ bit b
+pub eof-long : (b : Bool) → length (eof b) ≡ bit b
 eof-long true = refl
 eof-long false = refl
 
@@ -56,7 +56,7 @@ abbrev W : ℤ → Type 0
 W v = Unit {0}
 
 module _ (room : Table → ℕ) where
-  flagged-room : (kept n : ℕ) → Gives W room (λ b. kept + n + bit b ≤ room Ranges) (flagged kept n)
+  pub flagged-room : (kept n : ℕ) → Gives W room (λ b. kept + n + bit b ≤ room Ranges) (flagged kept n)
   unfolding flagged Gives
   flagged-room kept n = λ p v x h. h
 
@@ -108,29 +108,13 @@ module _ (room : Table → ℕ) where
 
 -- ---- so many words
 
-numbered-long : {A B : Type 0} (i : ℕ) (f : ℕ → A → B) (l : List A) → length (numbered i f l) ≡ length l
-numbered-long i f [] = refl
-numbered-long i f (a ∷ l) = ap suc (numbered-long (i + 1) f l)
-
-numbered-every : {A B : Type 0} (P : B → Type 0) (i : ℕ) (f : ℕ → A → B) (l : List A) → ((j : ℕ) (a : A) → P (f j a)) → Every P (numbered i f l)
-numbered-every P i f [] h = tt
-numbered-every P i f (a ∷ l) h = (h i a, numbered-every P (i + 1) f l h)
-
-sets-long : (k : ℕ) (ls : List (List Range)) → length (setRecords k ls) ≡ length ls
+pub sets-long : (k : ℕ) (ls : List (List Range)) → length (setRecords k ls) ≡ length ls
 sets-long k [] = refl
 sets-long k (l ∷ ls) = ap suc (sets-long (k + length l) ls)
 
-abbrev Wide : ℕ → List ℤ → Type 0
-Wide w r = length r ≡ w
-
-sets-wide : (k : ℕ) (ls : List (List Range)) → Every (Wide 2) (setRecords k ls)
+pub sets-wide : (k : ℕ) (ls : List (List Range)) → Every (Wide 2) (setRecords k ls)
 sets-wide k [] = tt
 sets-wide k (l ∷ ls) = (refl, sets-wide (k + length l) ls)
-
--- records of w words, in a row
-pub flat-long : (w : ℕ) (rs : List (List ℤ)) → Every (Wide w) rs → length (flat rs) ≡ w * length rs
-flat-long w [] h = sym (native.Mathlib.Nat.mul-zero w)
-flat-long w (r ∷ rs) h = length-append r (flat rs) ∙ ap (λ (n : ℕ). n + length (flat rs)) (h .0) ∙ omega (arith, flat-long w rs (h .1), mul-suc w (length rs))
 
 -- each record has its table's words
 pub records-wide : (r : Read) (t : Table) → Every (Wide (width t)) (records r t)
@@ -157,7 +141,7 @@ records-room room r h Decisions = omega (arith, h .decisions, numbered-long 0 (�
 records-room room r h Actions = omega (arith, h .actions, numbered-long 0 (λ i a. actionWords a) (r .actions))
 records-room room r h Scratch = omega arith
 
-room-words : (lent : Table → ℕ) (t : Table) (n : ℕ) → n ≤ room lent t → width t * n ≤ lent t
+pub room-words : (lent : Table → ℕ) (t : Table) (n : ℕ) → n ≤ room lent t → width t * n ≤ lent t
 room-words lent States n h = omega arith
 room-words lent Edges n h = omega arith
 room-words lent Ranges n h = omega arith

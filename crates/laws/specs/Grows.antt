@@ -2,7 +2,7 @@
 use mathlib.Core.Path.{_≡_, refl, ap, _∙_}
 use mathlib.Core.Bool.{Bool, true, false, _&&_}
 use mathlib.Core.List.{List, [], _∷_, _++_, append-nil}
-use Prim.Native.Nat.{ℕ, suc, _+_, _<_}
+use Prim.Native.Nat.{ℕ, _+_, _<_}
 use native.Mathlib.Omega.{arith}
 use lib.Dec.{ltb, eqb}
 use lib.IntN.{ℤ, pos}
@@ -10,19 +10,8 @@ use lib.ListN.{length, length-append}
 use borrow.Author.Tests.{lt-ltb, eq-eqb, ne-eqb}
 use Rattle.format.specs.Reading.{pick}
 use Rattle.format.specs.Sections.{State, Edge, same, none}
-use Rattle.format.specs.Links.{those, numbersFrom, numbers, first, last, chain, next, stopOf}
-
-numbers-more : {A : Type 0} (i : ℕ) (p : A → Bool) (l : List A) (a : A) → numbersFrom i p (l ++ (a ∷ [])) ≡ numbersFrom i p l ++ pick (p a) ((i + length l) ∷ []) []
-numbers-more i p [] a = ap (λ (n : ℕ). pick (p a) (n ∷ []) []) (omega arith)
-numbers-more {A} i p (x ∷ l) a = go (p x) (numbers-more (i + 1) p l a)
-  where
-    e : i + 1 + length l ≡ i + suc (length l)
-    e = omega arith
-
-    go : (b : Bool) → numbersFrom (i + 1) p (l ++ (a ∷ [])) ≡ numbersFrom (i + 1) p l ++ pick (p a) ((i + 1 + length l) ∷ []) []
-        → pick b (i ∷ numbersFrom (i + 1) p (l ++ (a ∷ []))) (numbersFrom (i + 1) p (l ++ (a ∷ []))) ≡ pick b (i ∷ numbersFrom (i + 1) p l) (numbersFrom (i + 1) p l) ++ pick (p a) ((i + suc (length l)) ∷ []) []
-    go true ih = ap (λ (m : List ℕ). i ∷ m) (ih ∙ ap (λ (n : ℕ). numbersFrom (i + 1) p l ++ pick (p a) (n ∷ []) []) e)
-    go false ih = ih ∙ ap (λ (n : ℕ). numbersFrom (i + 1) p l ++ pick (p a) (n ∷ []) []) e
+use Rattle.format.specs.Links.{those, numbers, first, last, chain, next, stopOf}
+use Rattle.laws.specs.Lists.{those-append, numbers-append}
 
 pub last-more : (l : List ℕ) (n : ℕ) → last (l ++ (n ∷ [])) ≡ pos n
 last-more [] n = refl
@@ -37,24 +26,16 @@ first-new : (l m : List ℕ) → first l ≡ none → first (l ++ m) ≡ first m
 first-new [] m e = refl
 first-new (n ∷ l) m e = absurd (let z : _≡_ {A = ℕ} 0 1 = cc in omega arith)
 
-those-more : {A : Type 0} (p : A → Bool) (l m : List A) → those p (l ++ m) ≡ those p l ++ those p m
-those-more p [] m = refl
-those-more {A} p (a ∷ l) m = go (p a) (those-more p l m)
-  where
-    go : (b : Bool) → those p (l ++ m) ≡ those p l ++ those p m → pick b (a ∷ those p (l ++ m)) (those p (l ++ m)) ≡ pick b (a ∷ those p l) (those p l) ++ those p m
-    go true ih = ap (λ (x : List A). a ∷ x) ih
-    go false ih = ih
-
 module _ (es : List Edge) (e : Edge) where
   abbrev grown : List Edge
   grown = es ++ (e ∷ [])
 
   -- the chain of the edge's source has it at its end; the others stay
   pub chain-own : chain grown (e .source) ≡ chain es (e .source) ++ (length es ∷ [])
-  chain-own = numbers-more 0 (λ (x : Edge). eqb (x .source) (e .source)) es e ∙ rw (eq-eqb (e .source) (e .source) refl) (ap (λ (n : ℕ). chain es (e .source) ++ (n ∷ [])) (omega arith))
+  chain-own = numbers-append (λ (x : Edge). eqb (x .source) (e .source)) 0 es (e ∷ []) ∙ rw (eq-eqb (e .source) (e .source) refl) (ap (λ (n : ℕ). chain es (e .source) ++ (n ∷ [])) (omega arith))
 
   pub chain-other : (s : ℕ) → (e .source ≡ s → ⊥) → chain grown s ≡ chain es s
-  chain-other s h = numbers-more 0 (λ (x : Edge). eqb (x .source) s) es e ∙ rw (ne-eqb (e .source) s h) (append-nil (chain es s))
+  chain-other s h = numbers-append (λ (x : Edge). eqb (x .source) s) 0 es (e ∷ []) ∙ rw (ne-eqb (e .source) s h) (append-nil (chain es s))
 
   -- so its source's last edge is it, one edge more; and its first, if there was none
   pub last-own : last (chain grown (e .source)) ≡ pos (length es)
@@ -71,7 +52,7 @@ module _ (es : List Edge) (e : Edge) where
 
   -- a next edge stays; where there was none, it is the new edge in its source's chain, and none in another
   next-by : (i : ℕ) → next grown (e .source) i ≡ first (those (λ j. ltb i j) (chain es (e .source)) ++ those (λ j. ltb i j) (length es ∷ []))
-  next-by i = ap (λ (c : List ℕ). first (those (λ j. ltb i j) c)) chain-own ∙ ap first (those-more (λ j. ltb i j) (chain es (e .source)) (length es ∷ []))
+  next-by i = ap (λ (c : List ℕ). first (those (λ j. ltb i j) c)) chain-own ∙ ap first (those-append (λ j. ltb i j) (chain es (e .source)) (length es ∷ []))
 
   pub next-stays : (i j : ℕ) → next es (e .source) i ≡ pos j → next grown (e .source) i ≡ pos j
   next-stays i j h = next-by i ∙ first-keep (those (λ j. ltb i j) (chain es (e .source))) (those (λ j. ltb i j) (length es ∷ [])) j h
@@ -88,7 +69,7 @@ module _ (ss : List State) (s : State) where
   Stops R x = eqb (x .kind) 7 && same (x .rule) R
 
   stop-by : (R : ℤ) → stopOf (ss ++ (s ∷ [])) R ≡ last (numbers (Stops R) ss ++ pick (Stops R s) (length ss ∷ []) [])
-  stop-by R = ap last (numbers-more 0 (Stops R) ss s ∙ ap (λ (n : ℕ). numbers (Stops R) ss ++ pick (Stops R s) (n ∷ []) []) (omega arith))
+  stop-by R = ap last (numbers-append (Stops R) 0 ss (s ∷ []) ∙ ap (λ (n : ℕ). numbers (Stops R) ss ++ pick (Stops R s) (n ∷ []) []) (omega arith))
 
   pub stop-new : (R : ℤ) → Stops R s ≡ true → stopOf (ss ++ (s ∷ [])) R ≡ pos (length ss)
   stop-new R h = stop-by R ∙ rw h (last-more (numbers (Stops R) ss) (length ss))

@@ -3,6 +3,8 @@ pub mod Reading
 pub mod Running
 pub mod Collect
 pub mod Gives
+pub mod Lists
+pub mod Rows
 pub mod Order
 pub mod Canonical
 pub mod Kept
@@ -19,3 +21,5 @@ pub mod Refusals
 pub mod Grows
 pub mod Own
 pub mod Marks
+pub mod Sound
+pub mod Answered

@@ -18,10 +18,10 @@ use Rattle.laws.specs.Canonical.{Canonical, Within, In, Fit, Given}
 use Rattle.laws.specs.Kept.{unique, key-lower, key-upper, keep-members, keep-fit}
 use Rattle.laws.specs.Lookup.{lookup-in}
 
-to-T : {b : Bool} → b ≡ true → T b
+pub to-T : {b : Bool} → b ≡ true → T b
 to-T e = subst T (sym e) tt
 
-of-T : (b : Bool) → T b → b ≡ true
+pub of-T : (b : Bool) → T b → b ≡ true
 of-T true t = refl
 of-T false t = absurd t
 

@@ -14,7 +14,7 @@ use Rattle.format.specs.Links.{names, stateAt, stopOf, stops, Safe, stop, step}
 use Rattle.laws.specs.Safe.{and-true, TailCall}
 use Rattle.laws.specs.Chains.{numbers-are, stop-highest}
 
-same-true : (a b : ℤ) → same a b ≡ true → a ≡ b
+pub same-true : (a b : ℤ) → same a b ≡ true → a ≡ b
 same-true (pos a) (pos b) e = ap pos (eqb-true a b e)
 same-true (pos a) (negsuc b) e = absurd (let z : _≡_ {A = ℕ} 0 1 = cc in omega arith)
 same-true (negsuc a) (pos b) e = absurd (let z : _≡_ {A = ℕ} 0 1 = cc in omega arith)

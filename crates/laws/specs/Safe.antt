@@ -40,12 +40,12 @@ true-or : (a b : Bool) → b ≡ true → pick a true b ≡ true
 true-or true b e = refl
 true-or false b e = e
 
-every-true : {A : Type 0} (p : A → Bool) (d : A) (l : List A) → every p l ≡ true → (i : ℕ) → i < length l → p (getD l i d) ≡ true
+pub every-true : {A : Type 0} (p : A → Bool) (d : A) (l : List A) → every p l ≡ true → (i : ℕ) → i < length l → p (getD l i d) ≡ true
 every-true p d [] e i h = absurd (omega arith)
 every-true p d (x ∷ l) e zero h = if-true (p x) (every p l) e .0
 every-true p d (x ∷ l) e (suc i) h = every-true p d l (if-true (p x) (every p l) e .1) i (omega arith)
 
-true-every : {A : Type 0} (p : A → Bool) (d : A) (l : List A) → ((i : ℕ) → i < length l → p (getD l i d) ≡ true) → every p l ≡ true
+pub true-every : {A : Type 0} (p : A → Bool) (d : A) (l : List A) → ((i : ℕ) → i < length l → p (getD l i d) ≡ true) → every p l ≡ true
 true-every p d [] f = refl
 true-every p d (x ∷ l) f = true-if (p x) (every p l) (f 0 (omega arith)) (true-every p d l (λ i h. f (suc i) (omega arith)))
 

@@ -1,11 +1,8 @@
 -- Chaining an edge, by the number of the last edge before it.
-use mathlib.Core.Path.{_≡_, refl, _∙_}
-use mathlib.Core.List.{List, append-nil}
-use Prim.Native.Nat.{ℕ, _+_, _≤_, _<_, _^_}
+use mathlib.Core.Path.{_≡_, refl}
+use Prim.Native.Nat.{ℕ, _≤_, _<_, _^_}
 use native.Mathlib.Omega.{arith}
 use lib.IntN.{pos}
-use lib.ListN.{length, drop-of-length-le}
-use lib.Seq.{sets, sets-eq}
 use Rattle.inplace.specs.Rows.{wordOf, stored}
 use Rattle.inplace.specs.Links.{Net, net, firstOr}
 use Rattle.tables.specs.Words.{spot}
@@ -19,7 +16,3 @@ module _ (i s : ℕ) (t : Net) {last : ℕ} (e : last ≡ spot (wordOf 8 (t .sta
 
   pub first-new : i ≤ last → firstOr i s t ≡ net (stored 8 (t .states) s 5 (pos i)) (t .edges)
   first-new h = rw (names-no (wordOf 8 (t .states) s 6) i e h) refl
-
--- stores that fill a list from its start to its end leave what was stored
-pub all-set : {A : Type 0} (vs l : List A) → length l ≡ length vs → sets l 0 vs ≡ vs
-all-set vs l h = sets-eq vs l 0 (omega arith) ∙ rw (drop-of-length-le l {i = 0 + length vs} (omega arith)) (append-nil vs)

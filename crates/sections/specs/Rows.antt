@@ -1,11 +1,7 @@
 -- What a program reads, as its record's words.
-use mathlib.Core.Path.{_≡_, _∙_}
-use mathlib.Core.List.{List, append-nil}
-use Prim.Native.Nat.{ℕ, _+_}
-use native.Mathlib.Omega.{arith}
+use mathlib.Core.List.{List}
+use Prim.Native.Nat.{ℕ}
 use lib.IntN.{ℤ}
-use lib.ListN.{length, drop-of-length-le}
-use lib.Seq.{sets, sets-eq}
 use Rattle.format.specs.Reading.{Prog, done, _>>=_, known, index}
 use Rattle.format.specs.Sections.{State, Action, actionOf}
 use Rattle.format.specs.Tables.{stateWord, actionWords}
@@ -24,7 +20,3 @@ actionRow p = p >>= (λ x. done (actionWords x))
 -- What is left of an action when its three words are read, the first at the place p.
 abbrev pub decoded : ℕ → ℤ → ℤ → ℤ → Prog Action
 decoded p w d1 d2 = known 11 0 7 33 p w >>= (λ k. done (actionOf k d1 d2))
-
--- stores that fill a record from its start to its end leave what was stored
-pub all-set : (vs l : List ℤ) → length l ≡ length vs → sets l 0 vs ≡ vs
-all-set vs l h = sets-eq vs l 0 (omega arith) ∙ rw (drop-of-length-le l {i = 0 + length vs} (omega arith)) (append-nil vs)

@@ -6,7 +6,7 @@ use lib.ListN.{length-set}
 use Rattle.format.specs.Sections.{edgeOf}
 use Rattle.inplace.specs.Rows.{edgeRow}
 use Rattle.words.proofs.Signs.{back32}
-use Rattle.links.specs.Chains.{all-set}
+use Rattle.laws.specs.Lists.{all-set}
 use Rattle.edges.proofs.transition.write_edge.Statement.{statement}
 use Rattle.edges.proofs.transition.write_edge.Tie as tie
 

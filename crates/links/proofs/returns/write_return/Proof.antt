@@ -7,7 +7,7 @@ use denote.Ref.{now}
 use Rattle.format.specs.Sections.{edgeOf}
 use Rattle.inplace.specs.Rows.{edgeRow}
 use Rattle.words.proofs.Signs.{back32}
-use Rattle.links.specs.Chains.{all-set}
+use Rattle.laws.specs.Lists.{all-set}
 use Rattle.links.proofs.returns.write_return.Statement.{statement}
 use Rattle.links.proofs.returns.write_return.Tie as tie
 

@@ -6,7 +6,7 @@ use Rattle.format.specs.Reading.{run, index, done}
 use Rattle.format.specs.Tables.{stateWord}
 use Rattle.laws.specs.Running.{ok-then, no-then}
 use Rattle.words.proofs.Signs.{back32}
-use Rattle.sections.specs.Rows.{all-set}
+use Rattle.laws.specs.Lists.{all-set}
 use Rattle.sections.proofs.records.deserialize_number.Statement.{statement}
 use Rattle.sections.proofs.records.deserialize_number.Tie as tie
 

@@ -3,7 +3,7 @@ use mathlib.Core.List.{[], _∷_}
 use denote.Ref.{now}
 use borrow.Author.Needs.{needs}
 use Rattle.words.proofs.Signs.{back32}
-use Rattle.sections.specs.Rows.{all-set}
+use Rattle.laws.specs.Lists.{all-set}
 use Rattle.sections.proofs.records.write_three.Statement.{statement}
 use Rattle.sections.proofs.records.write_three.Tie as tie
 

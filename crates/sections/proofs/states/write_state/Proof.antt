@@ -6,7 +6,7 @@ use borrow.Author.Needs.{needs}
 use Rattle.format.specs.Sections.{stateOf}
 use Rattle.inplace.specs.Rows.{stateRow}
 use Rattle.words.proofs.Signs.{back32}
-use Rattle.sections.specs.Rows.{all-set}
+use Rattle.laws.specs.Lists.{all-set}
 use Rattle.sections.proofs.states.write_state.Statement.{statement}
 use Rattle.sections.proofs.states.write_state.Tie as tie
 
