@@ -1,10 +1,16 @@
-// Gatehazel's outer entry: a serialized lexer network, decoded into lent tables (document 01, "Lent tables").
+// Gatehazel's public face: a serialized lexer network, decoded into lent tables (document 01, "Lent tables"), and the questions about them.
 // `decode` takes the words from the first on; `reader` begins at a place of the caller's choice.
 
 pub mod reader;
 
 ghost use Rattle.inplace.specs.Whole.{tables};
 ghost use Rattle.serialized.specs.Answered.{Decodes};
+// The four questions about decoded tables, and a set's bounds: proved where they stand.
+pub use questions::matches;
+pub use questions::nth_edge;
+pub use questions::set_part;
+pub use questions::set_ranges;
+pub use ranges::contains;
 use format::Decoded;
 
 pub fn decode(
