@@ -6,12 +6,12 @@ pub mod reader;
 ghost use Rattle.inplace.specs.Whole.{tables};
 ghost use Rattle.serialized.specs.Answered.{Decodes};
 // The four questions about decoded tables, and a set's bounds: proved where they stand.
+use format::Decoded;
 pub use questions::matches;
 pub use questions::nth_edge;
 pub use questions::set_part;
 pub use questions::set_ranges;
 pub use ranges::contains;
-use format::Decoded;
 
 pub fn decode(
     words: &[i32],
