@@ -5,8 +5,8 @@ pub mod reader;
 
 ghost use Rattle.inplace.specs.Whole.{tables};
 ghost use Rattle.serialized.specs.Answered.{Decodes};
-// The four questions about decoded tables, and a set's bounds: proved where they stand.
 use format::Decoded;
+// The four questions about decoded tables, and a set's bounds: proved where they stand.
 pub use questions::matches;
 pub use questions::nth_edge;
 pub use questions::set_part;
