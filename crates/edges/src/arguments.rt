@@ -6,38 +6,18 @@ ghost use Prim.Native.Nat.{_<_, _^_};
 ghost use Rattle.format.specs.Sections as spec;
 use words::Sign;
 
-// Whether a word is not 0.
-pub fn raised(c: i32) -> bool
-    ensures { λ r. ⌜ r ≡ spec.raised c ⌝ }
-{
-    match words::sign_of(c) {
-        Sign::Natural(n) => n != 0,
-        Sign::Negative => true,
-    }
-}
-
 // a, or the end of input if c is not 0.
 pub fn label(a: i32, c: i32) -> i32
     ensures { λ r. ⌜ r ≡ spec.label a c ⌝ }
 {
-    if raised(c) { -1 } else { a }
+    if words::raised(c) { -1 } else { a }
 }
 
 // 1 if c is not 0.
 pub fn truth(c: i32) -> i32
     ensures { λ r. ⌜ r ≡ spec.truth c ⌝ }
 {
-    if raised(c) { 1 } else { 0 }
-}
-
-// b, or none if it is negative.
-pub fn or_none(b: i32) -> i32
-    ensures { λ r. ⌜ r ≡ spec.orNone b ⌝ }
-{
-    match words::sign_of(b) {
-        Sign::Natural(_) => b,
-        Sign::Negative => -1,
-    }
+    if words::raised(c) { 1 } else { 0 }
 }
 
 // a as an index.

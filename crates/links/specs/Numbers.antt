@@ -3,13 +3,12 @@ use mathlib.Core.Path.{_≡_, refl, sym, _∙_}
 use mathlib.Core.Bool.{Bool, true, false, _&&_}
 use Prim.Native.Nat.{ℕ, _+_, _≤_, _<_, _^_}
 use native.Mathlib.Omega.{arith}
-use lib.Bits.{bitOr}
 use lib.IntN.{ℤ, pos, negsuc}
 use borrow.Author.Tests.{ltb-true, lt-ltb, le-ltb, eq-eqb, ne-eqb}
 use Rattle.format.specs.Reading.{pick}
 use Rattle.format.specs.Sections.{same, size}
 use Rattle.format.specs.Links.{names}
-use Rattle.inplace.specs.Rows.{oneMore, withBit}
+use Rattle.inplace.specs.Rows.{oneMore}
 use Rattle.tables.specs.Words.{spot, spot-word}
 use Rattle.words.specs.Signs.{signOf}
 use Rattle.words.specs.Laws.{natural-size}
@@ -63,13 +62,6 @@ module _ (z : ℤ) {n : ℕ} (e : signOf z ≡ Natural n) where
 pub one-more-nonsense : (z : ℤ) → signOf z ≡ Negative → oneMore z ≡ z
 one-more-nonsense (pos n) e = absurd (let q : _≡_ {A = ℕ} 0 1 = cc in omega arith)
 one-more-nonsense (negsuc n) e = refl
-
-pub with-bit-is : (z : ℤ) (b : ℕ) {n : ℕ} → signOf z ≡ Natural n → withBit b z ≡ pos (bitOr n b)
-with-bit-is z b {n} e = rw (natural-size z n e) refl
-
-pub with-bit-nonsense : (z : ℤ) (b : ℕ) → signOf z ≡ Negative → withBit b z ≡ z
-with-bit-nonsense (pos n) b e = absurd (let q : _≡_ {A = ℕ} 0 1 = cc in omega arith)
-with-bit-nonsense (negsuc n) b e = refl
 
 pub size-is : (z : ℤ) {n : ℕ} → signOf z ≡ Natural n → size z ≡ n
 size-is z {n} e = rw (natural-size z n e) refl

@@ -5,7 +5,7 @@ ghost use Prim.Native.Nat.{_<_, _^_};
 ghost use lib.IntN.{pos};
 ghost use lib.ListN.{length, getD};
 ghost use Rattle.format.specs.Sections.{size};
-ghost use Rattle.inplace.specs.Rows.{oneMore, withBit};
+ghost use Rattle.inplace.specs.Rows.{oneMore};
 use words::Sign;
 
 // One more, up to the largest word.
@@ -20,17 +20,6 @@ pub fn one_more(x: i32) -> i32
                 x
             }
         }
-        Sign::Negative => x,
-    }
-}
-
-// A flags word with one more flag.
-pub fn with_bit(x: i32, bit: usize) -> i32
-    requires { ⌜ bit < 2 ^ 31 ⌝ }
-    ensures { λ r. ⌜ r ≡ withBit bit x ⌝ }
-{
-    match words::sign_of(x) {
-        Sign::Natural(n) => words::word_of(n | bit),
         Sign::Negative => x,
     }
 }

@@ -94,15 +94,6 @@ fn decides(
     }
 }
 
-// One more flag on the state s.
-fn set_flag(states: &mut [i32], s: usize, bit: usize)
-    requires { ⌜ (8 * s + 8 ≤ length (now states)) × (bit < 2 ^ 31) ⌝ }
-    ensures { λ _. ⌜ now (states .exit) ≡ flagAt bit s (now (states .entry)) ⌝ }
-{
-    let i = 8 * s + 4;
-    states[i] = crate::numbers::with_bit(states[i], bit);
-}
-
 // Flag 4 on the state s, if it is a precedence decision.
 fn mark_one(
     states: &mut [i32],
@@ -117,7 +108,7 @@ fn mark_one(
     ensures { λ _. ⌜ now (states .exit) ≡ pick (decidesAt n m k (now (rules .entry)) (now (edges .entry)) (now (states .entry)) s) (flagAt 4 s (now (states .entry))) (now (states .entry)) ⌝ }
 {
     if decides(states, edges, rules, n, m, k, s) {
-        set_flag(states, s, 4);
+        bits::set_flag(states, s, 4);
     }
 }
 

@@ -9,34 +9,12 @@ ghost use Rattle.format.specs.Sections.{named};
 ghost use Rattle.laws.specs.Running.{turns};
 ghost use Rattle.words.specs.Answers.{outcomeIx, told, Below};
 ghost use Rattle.inplace.specs.Held.{held, onward, with};
-ghost use Rattle.inplace.specs.Rows.{withBit, flagAt};
 ghost use Rattle.inplace.specs.Sections as spec;
 ghost use Rattle.sections.specs.Tables.{StatesIn};
 use format::Counts;
 use format::Decoded;
 use words::Index;
-use words::Sign;
 use words::Step;
-
-// A flags word with one more flag.
-fn with_bit(x: i32, bit: usize) -> i32
-    requires { ⌜ bit < 2 ^ 31 ⌝ }
-    ensures { λ r. ⌜ r ≡ withBit bit x ⌝ }
-{
-    match words::sign_of(x) {
-        Sign::Natural(n) => words::word_of(n | bit),
-        Sign::Negative => x,
-    }
-}
-
-// One more flag on the state s.
-fn set_flag(states: &mut [i32], s: usize, bit: usize)
-    requires { ⌜ (8 * s + 4 < length (now states)) × (bit < 2 ^ 31) ⌝ }
-    ensures { λ _. ⌜ now (states .exit) ≡ flagAt bit s (now (states .entry)) ⌝ }
-{
-    let k = 8 * s + 4;
-    states[k] = with_bit(states[k], bit);
-}
 
 // Field 10 or 12: one of the n states, else refusal 7.
 fn read_named(words: &[i32], at: usize, n: usize, field: u32) -> Index
@@ -56,7 +34,7 @@ fn flag_one(states: &mut [i32], n: usize, bit: usize, words: &[i32], at: usize, 
 {
     match read_named(words, at, n, field) {
         Index::Got(s, next) => {
-            set_flag(states, s, bit);
+            bits::set_flag(states, s, bit);
             Step::Next(next)
         }
         Index::Refused(r) => Step::Refused(r),

@@ -5,20 +5,13 @@ ghost use mathlib.Core.Path.{_≡_};
 ghost use Prim.Native.Nat.{ℕ, _<_};
 ghost use lib.ListN.{length, getD};
 ghost use Rattle.format.specs.Reading.{Table, word, run, known};
-ghost use Rattle.format.specs.Sections.{orNone, stateOf, follows, linked, following, state};
+ghost use Rattle.format.specs.Sections.{stateOf, follows, linked, following, state};
 ghost use Rattle.words.specs.Answers.{outcomeIx, told, Below};
 ghost use Rattle.inplace.specs.Rows.{stateRow};
 ghost use Rattle.sections.specs.Rows.{asRow};
 use words::Index;
 use words::Step;
 use words::Word;
-
-// A rule index: any negative one is none.
-fn or_none(x: i32) -> i32
-    ensures { λ r. ⌜ r ≡ orNone x ⌝ }
-{
-    if x < 0 { -1 } else { x }
-}
 
 // The record of a state that has no flag and no edge yet.
 fn write_state(part: &mut [i32], kind: usize, rule: i32, end: i32, back: i32)
@@ -84,10 +77,10 @@ fn deserialize_rule_index(
     match words::read(words, at, 6) {
         Word::Got(v, next) => {
             if follow == 1 {
-                write_state(part, kind, or_none(v), -1, -1);
+                write_state(part, kind, words::or_none(v), -1, -1);
                 return Step::Next(next);
             }
-            deserialize_link(part, kind, or_none(v), words, next)
+            deserialize_link(part, kind, words::or_none(v), words, next)
         }
         Word::Refused(r) => Step::Refused(r),
     }

@@ -8,23 +8,12 @@ ghost use Rattle.format.specs.Reading.{Table, Ranges, run, noRoom};
 ghost use Rattle.format.specs.Sections as spec;
 ghost use Rattle.sets.specs.Answers.{outcomeFlag, Roomy};
 use format::Refusal;
-use words::Sign;
 use words::Word;
 
 // The EOF flag and the place of the next word, or why not.
 pub enum Flag {
     Got(bool, usize),
     Refused(Refusal),
-}
-
-// Whether a word is not 0.
-fn raised(v: i32) -> bool
-    ensures { λ r. ⌜ r ≡ spec.raised v ⌝ }
-{
-    match words::sign_of(v) {
-        Sign::Natural(n) => n != 0,
-        Sign::Negative => true,
-    }
 }
 
 // How many ranges a flag adds.
@@ -55,7 +44,7 @@ pub fn read_flag(words: &[i32], at: usize, kept: usize, n: usize, room: usize) -
 {
     match words::read(words, at, 20) {
         Word::Got(v, next) => {
-            let flagged = raised(v);
+            let flagged = words::raised(v);
             let needed = kept + n + bit(flagged);
             if needed <= room {
                 Flag::Got(flagged, next)

@@ -22,6 +22,10 @@ pub natural-size : (z : ℤ) (i : ℕ) → signOf z ≡ Natural i → z ≡ pos 
 natural-size (pos m) i s = let q : m ≡ i = cc in ap pos q
 natural-size (negsuc m) i s = absurd (let q : _≡_ {A = ℕ} 0 1 = cc in omega arith)
 
+pub below-zero : (z : ℤ) → signOf z ≡ Negative → (n : ℕ) × (z ≡ negsuc n)
+below-zero (pos m) s = absurd (let q : _≡_ {A = ℕ} 0 1 = cc in omega arith)
+below-zero (negsuc m) s = (m, refl)
+
 pub natural-small : (z : ℤ) (i k : ℕ) → signOf z ≡ Natural i → mag z < k → i < k
 natural-small (pos m) i k s h = let q : m ≡ i = cc in omega arith
 natural-small (negsuc m) i k s h = absurd (let q : _≡_ {A = ℕ} 0 1 = cc in omega arith)

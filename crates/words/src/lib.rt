@@ -7,6 +7,7 @@ ghost use mathlib.Core.List.{List};
 ghost use Prim.Native.Nat.{ℕ, _+_, _<_, _^_};
 ghost use lib.IntN.{ℤ, pos};
 ghost use Rattle.format.specs.Reading.{Table, run, get, index, count, natural, known as isKnown, listed as isListed, refusal};
+ghost use Rattle.format.specs.Sections.{raised as isRaised, orNone};
 ghost use Rattle.words.specs.Signs.{signOf};
 ghost use Rattle.words.specs.Answers.{outcome, outcomeIx, Below};
 use format::Refusal;
@@ -58,6 +59,26 @@ pub fn wide(x: i32) -> i64
     ensures { λ r. ⌜ r ≡ x ⌝ }
 {
     x as i64
+}
+
+// Whether a word is not 0.
+pub fn raised(c: i32) -> bool
+    ensures { λ r. ⌜ r ≡ isRaised c ⌝ }
+{
+    match sign_of(c) {
+        Sign::Natural(n) => n != 0,
+        Sign::Negative => true,
+    }
+}
+
+// A word, or none if it is negative.
+pub fn or_none(b: i32) -> i32
+    ensures { λ r. ⌜ r ≡ orNone b ⌝ }
+{
+    match sign_of(b) {
+        Sign::Natural(_) => b,
+        Sign::Negative => -1,
+    }
 }
 
 // The refusal of the word `value`.

@@ -1,9 +1,8 @@
 -- `edges::arguments::size` meets its contract: by the sign. Assumes nothing.
 use borrow.Author.Needs.{needs}
 use mathlib.Core.Path.{refl}
-use Rattle.words.specs.Laws.{natural-size, natural-small}
+use Rattle.words.specs.Laws.{natural-size, natural-small, below-zero}
 use Rattle.words.proofs.Signs.{its-sign}
-use Rattle.edges.proofs.Signs.{below-zero}
 use Rattle.edges.proofs.arguments.size.Statement.{statement}
 use Rattle.edges.proofs.arguments.size.Tie as tie
 

@@ -1,4 +1,4 @@
--- `sections::flags::set_flag` meets its contract: one word is read, and stored again. Assumes nothing.
+-- `set_flag` meets its contract: one word is read, and stored again. Assumes nothing.
 use mathlib.Core.Path.{refl}
 use Prim.Native.Nat.{_+_, _*_}
 use denote.Ref.{now}
@@ -6,8 +6,8 @@ use lib.IntN.{pos}
 use lib.ListN.{getD}
 use borrow.Author.Needs.{needs}
 use Rattle.words.proofs.Signs.{back32}
-use Rattle.sections.proofs.flags.set_flag.Statement.{statement}
-use Rattle.sections.proofs.flags.set_flag.Tie as tie
+use Rattle.bits.proofs.set_flag.Statement.{statement}
+use Rattle.bits.proofs.set_flag.Tie as tie
 
 mul-k : tie.Need-mul-k
 mul-k c = search needs

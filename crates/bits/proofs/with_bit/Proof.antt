@@ -1,4 +1,4 @@
--- `sections::flags::with_bit` meets its contract: two numbers below 2^31 have a union below it. Assumes nothing.
+-- `with_bit` meets its contract: two numbers below 2^31 have a union below it. Assumes nothing.
 use mathlib.Core.Path.{_≡_, refl}
 use Prim.Native.Nat.{ℕ, _^_}
 use native.Mathlib.Omega.{arith}
@@ -10,8 +10,8 @@ use Rattle.words.specs.Signs.{signOf}
 use Rattle.words.specs.Laws.{natural-size, natural-small}
 use Rattle.words.specs.declared.Sign.the-variants.{Negative}
 use Rattle.words.proofs.Signs.{back32, its-sign}
-use Rattle.sections.proofs.flags.with_bit.Statement.{statement}
-use Rattle.sections.proofs.flags.with_bit.Tie as tie
+use Rattle.bits.proofs.with_bit.Statement.{statement}
+use Rattle.bits.proofs.with_bit.Tie as tie
 
 stays : (b : ℕ) (z : ℤ) → signOf z ≡ Negative → z ≡ withBit b z
 stays b (pos n) s = absurd (let q : _≡_ {A = ℕ} 0 1 = cc in omega arith)

@@ -1,11 +1,10 @@
--- `edges::arguments::raised` meets its contract: by the sign. Assumes nothing.
+-- `raised` meets its contract: by the sign. Assumes nothing.
 use borrow.Author.Needs.{needs}
 use mathlib.Core.Path.{refl}
-use Rattle.words.specs.Laws.{natural-size}
+use Rattle.words.specs.Laws.{natural-size, below-zero}
 use Rattle.words.proofs.Signs.{its-sign}
-use Rattle.edges.proofs.Signs.{below-zero}
-use Rattle.edges.proofs.arguments.raised.Statement.{statement}
-use Rattle.edges.proofs.arguments.raised.Tie as tie
+use Rattle.words.proofs.raised.Statement.{statement}
+use Rattle.words.proofs.raised.Tie as tie
 
 sign-of-requires : tie.Need-sign-of-requires
 sign-of-requires c κs = search needs
