@@ -1,0 +1,2 @@
+-- Lemmas for the proofs of the functions.
+pub mod Hand

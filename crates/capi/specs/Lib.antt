@@ -1,0 +1,3 @@
+-- What the C interface hands over.
+pub mod Handed
+pub mod Places
