@@ -26,6 +26,10 @@ pub record Hands (s : Said) (r : ℕ) (a b : List ℤ) : Type 0 where
   pub told : r ≡ s .number
   pub left : b ≡ handed (s .values) a
 
+-- no second result, and no other words in the answer, meet it
+pub only : {s : Said} {r r′ : ℕ} {a b b′ : List ℤ} → Hands s r a b → Hands s r′ a b′ → (r ≡ r′) × (b ≡ b′)
+only x y = (x .told ∙ sym (y .told), x .left ∙ sym (y .left))
+
 -- ---- the same, word by word: the first n of a
 
 abbrev pub laid : ℕ → List ℤ → List ℤ → List ℤ

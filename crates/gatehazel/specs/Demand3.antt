@@ -7,8 +7,8 @@ use native.Mathlib.Omega.{arith}
 use native.Mathlib.Nat.{zero-add}
 use lib.IntN.{ℤ}
 use lib.ListN.{take}
-use Rattle.format.specs.Reading.{Table, ended}
-use Rattle.format.specs.Tables.{zeros}
+use Rattle.format.specs.Reading.{Table, ended, States, Edges, Ranges, Sets, Rules, Modes, Decisions, Actions, Scratch}
+use Rattle.format.specs.Tables.{nine, zeros}
 use Rattle.format.specs.Decode.{Answer, decoded}
 use Rattle.format.specs.declared.Refusal.{Refusal}
 use Rattle.format.specs.declared.Counts.{Counts}
@@ -52,11 +52,29 @@ pub refusal-survives : {t t′ : Tables} {ws : List ℤ} {q : Refusal} {r′ : D
     → Decodes t ws 0 (D.Refused q) u → Decodes t′ (ws ++ zs) 0 r′ u′ → (r′ ≡ D.Refused q) × (u′ ≡ u)
 refusal-survives {t} {ws = ws} {q = q} zs l n a b = alike l (laws.stays-refused (lengths t) ws zs 0 q (sym (a .told)) n) a b
 
+-- One of nine tables.
+abbrev pub tableOf : Tables → Table → List ℤ
+tableOf t = nine (t .states) (t .edges) (t .ranges) (t .sets) (t .rules) (t .modes) (t .decisions) (t .actions) (t .scratch)
+
+left-at : (a : Answer) (k : Table) → tableOf (leftBy a) k ≡ a .left k
+left-at a States = refl
+left-at a Edges = refl
+left-at a Ranges = refl
+left-at a Sets = refl
+left-at a Rules = refl
+left-at a Modes = refl
+left-at a Decisions = refl
+left-at a Actions = refl
+left-at a Scratch = refl
+
 -- "more room alters no answer but "no room"", and every table keeps its words, with zeros behind them
 pub more-room : {t t′ : Tables} {ws : List ℤ} {r r′ : Decoded} {u u′ : Tables} → ((k : Table) → lengths t k ≤ lengths t′ k)
     → ((q : Refusal) → r ≡ D.Refused q → q .number ≡ 12 → ⊥)
     → Decodes t ws 0 r u → Decodes t′ ws 0 r′ u′
-    → (r′ ≡ r) × ((k : Table) → decoded (lengths t′) ws 0 .left k ≡ decoded (lengths t) ws 0 .left k ++ zeros (lengths t′ k - lengths t k))
+    → (r′ ≡ r) × ((k : Table) → tableOf u′ k ≡ tableOf u k ++ zeros (lengths t′ k - lengths t k))
 more-room {t} {t′} {ws} g n a b =
-    let x = laws.more-room (lengths t) (lengths t′) g ws 0 (λ q e. n q (a .told ∙ e)) in
-    (b .told ∙ x .0 ∙ sym (a .told), x .1)
+    let x = laws.more-room (lengths t) (lengths t′) g ws 0 (λ q e. n q (a .told ∙ e)) in (
+      b .told ∙ x .0 ∙ sym (a .told),
+      λ k. ap (λ (v : Tables). tableOf v k) (b .left) ∙ left-at (decoded (lengths t′) ws 0) k ∙ x .1 k
+          ∙ ap (λ (l : List ℤ). l ++ zeros (lengths t′ k - lengths t k)) (sym (ap (λ (v : Tables). tableOf v k) (a .left) ∙ left-at (decoded (lengths t) ws 0) k)),
+    )

@@ -7,5 +7,4 @@ pub mod States
 pub mod Actions
 pub mod Turning
 pub mod Filling
-pub mod Counts
 pub mod Stops
