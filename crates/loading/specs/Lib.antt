@@ -1,0 +1,2 @@
+-- The words of a dialect file's bytes.
+pub mod Bytes
