@@ -84,7 +84,8 @@ def demos():
     """demos.txt: lists on which the Rust and public ANTLR were held side by side."""
     with open(os.path.join(HERE, "demos.txt"), encoding="utf-8") as file:
         for line in file:
-            if not line.startswith("#"):
+            # an indented line says what is answered: see public.py
+            if not line.startswith(("#", " ")):
                 yield [int(word) for word in line.split(":")[-1].split()]
 
 

@@ -2,24 +2,23 @@
 use mathlib.Core.Path.{_≡_, refl, sym, ap, _∙_, subst}
 use mathlib.Core.Bool.{Bool, true, false}
 use mathlib.Core.List.{List, [], _∷_}
+use mathlib.Core.Logic.{_↔_}
 use Prim.Native.Nat.{ℕ, zero, suc, _+_, _*_, _≤_, _<_, _^_}
 use native.Mathlib.Omega.{arith}
 use native.Mathlib.Numerals.{add-one}
-use lib.Dec.{eqb}
 use lib.IntN.{ℤ, pos}
 use lib.ListN.{length, set, drop, length-set}
 use lib.Seq.{drop-cons, getD-set-other}
-use borrow.Author.Tests.{eqb-true, eqb-false}
 use Rattle.format.specs.Reading.{pick}
 use Rattle.format.specs.Sections.{State, Edge, size}
 use Rattle.format.specs.Links.{tail}
 use Rattle.laws.specs.Safe.{TailCall, tail-call}
 use Rattle.laws.specs.Own.{Own, tail-own}
 use Rattle.tables.specs.Words.{spot, numberAt, spot-one}
-use Rattle.atn.specs.Records.{statesOf, edgesOf, noEdge, edgeAt, Chained, edges-are}
+use Rattle.atn.specs.Records.{statesOf, edgesOf, noEdge, edgeAt, Chained, Stopped, Linked, edges-are, linked-of}
 use Rattle.atn.specs.Own.{ruleAt}
-use Rattle.atn.specs.Search.{colour}
-use Rattle.atn.specs.Visits.{rule-small, Decided}
+use Rattle.atn.specs.Search.{Idle}
+use Rattle.atn.specs.Visits.{rule-small}
 
 -- The words of edges from number i on, with the mark 2 where the test says so.
 abbrev pub markFrom : (Edge → Bool) → ℕ → List Edge → List ℤ → List ℤ
@@ -89,11 +88,14 @@ module _ {n m k : ℕ} {st ed₀ ed : List ℤ} {i : ℕ} (M : Marking n m k st 
   abbrev ss : List State
   ss = statesOf n st
 
-  pub now-chained : Chained ss (edgesOf m ed) n m st ed
-  now-chained = subst (λ (l : List Edge). Chained ss l n m st ed) (sym (edges-are (M .chained))) (M .chained)
+  pub now-linked : {ru : List ℤ} → Stopped ss k ru → Linked st ed ru n m k
+  now-linked S = linked-of (M .chained) S
 
-  pub now-decided : {sc : List ℤ} → Decided ss k (edgesOf m ed₀) n sc → Decided ss k (edgesOf m ed) n sc
-  now-decided {sc} D = subst (λ (l : List Edge). Decided ss k l n sc) (sym (edges-are (M .chained))) D
+  pub now-idle : {sc : List ℤ} → Idle ss k (edgesOf m ed₀) sc → Idle ss k (edgesOf m ed) sc
+  now-idle {sc} r = subst (λ (l : List Edge). Idle ss k l sc) (sym (edges-are (M .chained))) r
+
+  pub then-idle : {sc : List ℤ} → Idle ss k (edgesOf m ed) sc → Idle ss k (edgesOf m ed₀) sc
+  then-idle {sc} r = subst (λ (l : List Edge). Idle ss k l sc) (edges-are (M .chained)) r
 
   pub marking-turns : (b : Bool) → b ≡ tail ss k (edgesOf m ed) (edgeAt (edgesOf m ed) i) → i < m → Marking n m k st ed₀ (pick b (set ed (8 * i + 6) (pos 2)) ed) (i + 1)
   marking-turns b e h =
@@ -117,7 +119,7 @@ module _ {n m k : ℕ} {st ed₀ ed : List ℤ} {i : ℕ} (M : Marking n m k st 
   pub marking-ends : m ≤ i → ed ≡ marked n k m st ed₀
   marking-ends h = sym (M .rest ∙ mark-end (tail ss k (edgesOf m ed₀)) (edgesOf m ed₀) i ed (omega (arith, M .chained .all-edges)))
 
--- ---- whether an edge is a tail call, by the words and the colours
+-- ---- whether an edge is a tail call, by the words and the search
 
 module _ (ss : List State) (k : ℕ) (es : List Edge) (e : Edge) where
   no-tail : (TailCall ss k es e → ⊥) → tail ss k es e ≡ false
@@ -144,16 +146,15 @@ module _ {ss : List State} {es : List Edge} {n m : ℕ} {st ed : List ℤ} (C : 
   pub tail-typed : (k kind : ℕ) → kind ≡ numberAt ed (8 * i) → (kind ≡ 3 → ⊥) → tail ss k es (edgeAt es i) ≡ false
   tail-typed k kind e f = no-rule-edge ss k es (edgeAt es i) (λ q. f (e ∙ kind-number ∙ q))
 
--- The edge i is a rule edge with the follow state f, by its words, and the search has decided.
-pub record Follows (ss : List State) (es : List Edge) (n m k : ℕ) (st ed sc : List ℤ) (i f : ℕ) : Type 0 where
+-- The edge i is a rule edge with the follow state f, by its words.
+pub record Follows (ss : List State) (es : List Edge) (n m k : ℕ) (st ed : List ℤ) (i f : ℕ) : Type 0 where
   pub chained : Chained ss es n m st ed
-  pub decided : Decided ss k es n sc
   pub few-rules : k < 2 ^ 31
   pub listed : i < m
   pub kind-is : numberAt ed (8 * i) ≡ 3
   pub follow-is : f ≡ numberAt ed (8 * i + 4)
 
-module _ {ss : List State} {es : List Edge} {n m k : ℕ} {st ed sc : List ℤ} {i f : ℕ} (F : Follows ss es n m k st ed sc i f) where
+module _ {ss : List State} {es : List Edge} {n m k : ℕ} {st ed : List ℤ} {i f : ℕ} (F : Follows ss es n m k st ed i f) where
   abbrev e : Edge
   e = edgeAt es i
 
@@ -183,14 +184,17 @@ module _ {ss : List State} {es : List Edge} {n m k : ℕ} {st ed sc : List ℤ} 
     pub tail-elsewhere : (ours ≡ theirs → ⊥) → tail ss k es e ≡ false
     tail-elsewhere n = no-tail ss k es e (λ t. n (ours-is ∙ ap spot (sym (tail-says t .0)) ∙ sym theirs-is))
 
-    pub tail-coloured : ours ≡ theirs → eqb (colour sc f) 2 ≡ tail ss k es e
-    tail-coloured q = go (eqb (colour sc f) 2) refl
+    pub tail-decided : ours ≡ theirs → (b : Bool) → b ≡ true ↔ Own ss k es f → b ≡ tail ss k es e
+    tail-decided q b d = go b d
       where
         yes : Own ss k es f → TailCall ss k es e
         yes o =
             let one = spot-one (ruleAt ss (e .source)) (ruleAt ss f) (sym ours-is ∙ q ∙ theirs-is) (omega (arith, F .few-rules, rule-small ss k (ruleAt ss f) (F .few-rules) (o .ends))) in
             tail-own ss k es e .1 (rule-edge, ap (ruleAt ss) (sym follows) ∙ sym one, subst (Own ss k es) follows o)
 
-        go : (b : Bool) → eqb (colour sc f) 2 ≡ b → b ≡ tail ss k es e
-        go true p = sym (tail-call ss k es e .1 (yes (F .decided .safe-is f l .0 (eqb-true (colour sc f) 2 p))))
-        go false p = sym (no-tail ss k es e (λ t. eqb-false (colour sc f) 2 p (F .decided .safe-is f l .1 (tail-says t .1))))
+        clash : false ≡ true → ⊥
+        clash p = let z : _≡_ {A = ℕ} 0 1 = cc in omega arith
+
+        go : (b : Bool) → b ≡ true ↔ Own ss k es f → b ≡ tail ss k es e
+        go true d = sym (tail-call ss k es e .1 (yes (d .0 refl)))
+        go false d = sym (no-tail ss k es e (λ t. clash (d .1 (tail-says t .1))))

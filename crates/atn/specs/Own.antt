@@ -1,6 +1,6 @@
 -- The states that are safe for their own rule (laws: `Own`): what their edges say, and that no cycle has one.
 use mathlib.Core.Path.{_≡_, refl, sym, ap, _∙_}
-use mathlib.Core.Bool.{Bool, true, false, not, _&&_}
+use mathlib.Core.Bool.{true, not, _&&_}
 use mathlib.Core.List.{List}
 use Prim.Native.Nat.{ℕ, _<_}
 use native.Mathlib.Omega.{arith}
@@ -8,7 +8,6 @@ use lib.Dec.{ltb, eqb}
 use lib.IntN.{ℤ, pos, negsuc}
 use lib.ListN.{length, getD}
 use borrow.Author.Tests.{lt-ltb, ltb-true, eq-eqb, ne-eqb, eqb-true, eqb-false, not-true}
-use Rattle.format.specs.Reading.{pick}
 use Rattle.format.specs.Sections.{State, Edge, same, size}
 use Rattle.format.specs.Links.{leaving, stateAt, stopOf, stops, passable, targetOf, Safe, stop, step}
 use Rattle.laws.specs.Safe.{and-true, every-true, true-every}
@@ -39,10 +38,6 @@ pub record Way (ss : List State) (k : ℕ) (es : List Edge) (s : ℕ) : Type 0 w
   pub other : s ≡ stopAt ss s → ⊥
   pub unstopped : stateAt ss s .kind ≡ 7 → ⊥
   pub some : 0 < degree es s
-
-both : (a b : Bool) → pick a b false ≡ true → (a ≡ true) × (b ≡ true)
-both true b e = (refl, e)
-both false b e = absurd (let z : _≡_ {A = ℕ} 0 1 = cc in omega arith)
 
 pub same-self : (a : ℤ) → same a a ≡ true
 same-self (pos n) = eq-eqb n n refl

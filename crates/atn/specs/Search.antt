@@ -34,14 +34,15 @@ passed es sc s = degree es s - left sc s
 abbrev pub pushed : List ℤ → ℕ → ℤ → ℤ → ℕ → List ℤ
 pushed sc s w z below = set (set (set (set sc (4 * s) (pos 1)) (4 * s + 1) w) (4 * s + 2) z) (4 * s + 3) (pos below)
 
--- A state's colour before the search: 2 at its rule's stop, 3 where it cannot be passed whatever its edges are, else 0. It has so many edges.
+-- The colour that a state gets when it is met: 2 at its rule's stop, 3 where it cannot be passed whatever its edges are, else 0: its edges
+-- decide, and it goes on the stack. It has so many edges.
 unfoldable pub firstColour : List State → ℕ → ℕ → ℕ → ℕ
 firstColour ss k edges s =
     pick (stops ss k (ruleAt ss s)) (pick (eqb (stopAt ss s) s) 2 (pick (eqb (stateAt ss s .kind) 7) 3 (pick (eqb edges 0) 3 0))) 3
 
--- What a colour says of the state s, with l on the stack.
+-- What a colour says of the state s, with l on the stack. White says nothing: the state was not met.
 abbrev pub Means : List State → ℕ → List Edge → List ℕ → ℕ → ℕ → Type 0
-Means ss k es l s zero = Way ss k es s
+Means ss k es l s zero = Unit {0}
 Means ss k es l s (suc zero) = Mem s l
 Means ss k es l s (suc (suc zero)) = Own ss k es s
 Means ss k es l s (suc (suc (suc zero))) = Own ss k es s → ⊥
@@ -73,6 +74,10 @@ pub record Runs (ss : List State) (k : ℕ) (es : List Edge) (sc : List ℤ) (l 
   pub known : (s : ℕ) → s < length ss → Means ss k es l s (colour sc s)
   pub stacked : Stacked ss k es sc l
   pub long : 4 * length ss ≤ length sc
+
+-- Between two searches: the stack is empty.
+abbrev pub Idle : List State → ℕ → List Edge → List ℤ → Type 0
+Idle ss k es sc = Runs ss k es sc []
 
 -- The stack's top; the number of states where the stack is empty.
 abbrev pub topOf : List State → List ℕ → ℕ
@@ -110,6 +115,11 @@ pub record Stepped (ss : List State) (k : ℕ) (es : List Edge) (sc sc′ : List
 
 pub stepped-as : {ss : List State} {k : ℕ} {es : List Edge} {sc a b : List ℤ} {top top′ : ℕ} → top ≡ top′ → a ≡ b → Stepped ss k es sc b top′ → Stepped ss k es sc a top
 stepped-as p q x = rw (p, q) x
+
+-- The white state t is met, with `top` on top of the stack: if its first colour is 0 it goes on the stack, else that colour is its last.
+pub record Met (ss : List State) (k : ℕ) (st sc sc′ : List ℤ) (t top top′ : ℕ) : Type 0 where
+  pub pushes : firstColour ss k (numberAt st (8 * t + 7)) t ≡ 0 → (top′ ≡ t) × (sc′ ≡ pushed sc t (getD st (8 * t + 5) (pos 0)) (getD st (8 * t + 7) (pos 0)) top)
+  pub settles : (firstColour ss k (numberAt st (8 * t + 7)) t ≡ 0 → ⊥) → (top′ ≡ top) × (sc′ ≡ set sc (4 * t) (pos (firstColour ss k (numberAt st (8 * t + 7)) t)))
 
 -- ---- what the stack's top says
 

@@ -1,4 +1,4 @@
--- The steps of the search, on the words of the scratch: the top is settled, its next edge is passed, or a white state goes on the stack.
+-- The steps of the search, on the words of the scratch: the top is settled, its next edge is passed, or a white state is met.
 use mathlib.Core.Path.{_≡_, refl, sym, ap, _∙_, subst}
 use mathlib.Core.Bool.{Bool, true, false}
 use mathlib.Core.List.{List, [], _∷_}
@@ -14,11 +14,11 @@ use Rattle.format.specs.Sections.{State, Edge}
 use Rattle.format.specs.Reading.{pick}
 use Rattle.format.specs.Links.{first, chain, stateAt, stops, targetOf}
 use Rattle.laws.specs.Chains.{Mem}
-use Rattle.tables.specs.Words.{spot, number-same, number-other}
-use Rattle.atn.specs.Own.{ruleAt, stopAt, degree, Leads, stop-own, own-way}
-use Rattle.atn.specs.Search.{colour, left, below, passed, pushed, firstColour, Means, Grey, Above, Fresh, Stacked, Runs, topOf, Running, share, shareOf, total, Stepped, opened, top-below}
+use Rattle.tables.specs.Words.{spot, numberAt, number-same, number-other}
+use Rattle.atn.specs.Own.{ruleAt, stopAt, degree, Leads, Way, stop-own, own-way}
+use Rattle.atn.specs.Search.{colour, left, below, passed, pushed, firstColour, Means, Grey, Above, Fresh, Stacked, Runs, topOf, Running, share, shareOf, total, Stepped, stepped-as, Met, opened, top-below}
 
-pub same? : (t s : ℕ) → (t ≡ s) ⊎ (t ≡ s → ⊥)
+same? : (t s : ℕ) → (t ≡ s) ⊎ (t ≡ s → ⊥)
 same? t s = go (eqb t s) refl
   where
     go : (b : Bool) → eqb t s ≡ b → (t ≡ s) ⊎ (t ≡ s → ⊥)
@@ -177,11 +177,27 @@ module _ (ss : List State) (k : ℕ) (es : List Edge) where
       s refl
       (omega (arith, n, ap (λ (a : ℕ). share a (degree es s) (left sc′ s)) c, ap (λ (a : ℕ). share a (degree es s) (left sc s)) (g .grey)))
 
+  -- a white state gets its last colour at once
+  coloured : {sc : List ℤ} {top : ℕ} → Running ss k es sc top → (t : ℕ) → t < length ss → colour sc t ≡ 0 → (v : ℕ) → 2 ≤ v → ((l : List ℕ) → Means ss k es l t v) → Stepped ss k es sc (set sc (4 * t) (pos v)) top
+  coloured {sc} {top} x t h white v lo m =
+      let r = x .runs in
+      let l = x .stack in
+      let sc′ = set sc (4 * t) (pos v) in
+      let b = same-set sc t (4 * t) (pos v) (omega arith) (omega arith) in
+      let e : colour sc′ t ≡ v = number-same sc (4 * t) (pos v) (omega (arith, r .long)) in
+      change sc sc′ t b h (length-set sc (4 * t) (pos v)) l l r
+      (λ u n w. w)
+      (subst (λ (c : ℕ). Means ss k es l t c) (sym e) (m l))
+      (λ q. omega arith)
+      (stacked-same sc sc′ t b l (fresh-of sc t l (r .stacked) (λ q. omega arith)) (r .stacked))
+      top (x .tops)
+      (omega (arith, share-done (colour sc′ t) (degree es t) (left sc′ t) (omega arith), ap (λ (a : ℕ). share a (degree es t) (left sc t)) white))
+
   -- a white state goes on the stack: at its first edge, with all of them left
-  pub goes-on : {sc : List ℤ} {top : ℕ} → Running ss k es sc top → (t : ℕ) → t < length ss → colour sc t ≡ 0
+  goes-on : {sc : List ℤ} {top : ℕ} → Running ss k es sc top → (t : ℕ) → t < length ss → colour sc t ≡ 0 → Way ss k es t
       → (top < length ss → (0 < left sc top) × (targetOf es top (passed es sc top) ≡ t))
       → (w z : ℤ) → w ≡ first (chain es t) → z ≡ pos (degree es t) → Stepped ss k es sc (pushed sc t w z top) t
-  goes-on {sc} {top} x t h white link w z ew ez =
+  goes-on {sc} {top} x t h white way link w z ew ez =
       let r = x .runs in
       let l = x .stack in
       let a1 = set sc (4 * t) (pos 1) in
@@ -212,7 +228,7 @@ module _ (ss : List State) (k : ℕ) (es : List Edge) where
       (λ q. omega arith) (
         record {
           grey = c;
-          way = subst (λ (a : ℕ). Means ss k es l t a) white (r .known t h);
+          way = way;
           few = omega arith;
           upcoming = d ∙ ew ∙ ap (λ (a : ℕ). first (drop a (chain es t))) (sym p);
           safe = λ i q. absurd (omega arith);
@@ -227,17 +243,21 @@ module _ (ss : List State) (k : ℕ) (es : List Edge) where
       onto sc′ b (p ∷ l) f st e u =
           (u ∙ e, onto-same sc sc′ t b p t (f .0) (subst (λ (q : ℕ). (0 < left sc q) × (targetOf es q (passed es sc q) ≡ t)) e (link (omega (arith, st .0 .way .listed)))))
 
-  -- ---- before the search, and after it
+  -- ---- a white state is met
 
-  -- a first colour says what it is to say
-  pub first-means : (s edges : ℕ) → s < length ss → edges ≡ degree es s → Means ss k es [] s (firstColour ss k edges s)
+  -- What a first colour says: the state goes on the stack, or is settled.
+  abbrev Tells : ℕ → ℕ → Type 0
+  Tells s zero = Way ss k es s
+  Tells s (suc c) = (1 ≤ c) × ((l : List ℕ) → Means ss k es l s (suc c))
+
+  first-tells : (s edges : ℕ) → s < length ss → edges ≡ degree es s → Tells s (firstColour ss k edges s)
   unfolding firstColour
-  first-means s edges h e = go (stops ss k (ruleAt ss s)) (eqb (stopAt ss s) s) (eqb (stateAt ss s .kind) 7) (eqb edges 0) refl refl refl refl
+  first-tells s edges h e = go (stops ss k (ruleAt ss s)) (eqb (stopAt ss s) s) (eqb (stateAt ss s .kind) 7) (eqb edges 0) refl refl refl refl
     where
-      go : (a b c d : Bool) → stops ss k (ruleAt ss s) ≡ a → eqb (stopAt ss s) s ≡ b → eqb (stateAt ss s .kind) 7 ≡ c → eqb edges 0 ≡ d → Means ss k es [] s (pick a (pick b 2 (pick c 3 (pick d 3 0))) 3)
-      go true true c d p q u v = stop-own ss k es s h p (sym (eqb-true (stopAt ss s) s q))
-      go true false true d p q u v = λ o. own-way ss k es s (λ w. eqb-false (stopAt ss s) s q (sym w)) o .unstopped (eqb-true (stateAt ss s .kind) 7 u)
-      go true false false true p q u v = λ o. omega (arith, own-way ss k es s (λ w. eqb-false (stopAt ss s) s q (sym w)) o .some, eqb-true edges 0 v)
+      go : (a b c d : Bool) → stops ss k (ruleAt ss s) ≡ a → eqb (stopAt ss s) s ≡ b → eqb (stateAt ss s .kind) 7 ≡ c → eqb edges 0 ≡ d → Tells s (pick a (pick b 2 (pick c 3 (pick d 3 0))) 3)
+      go true true c d p q u v = (omega arith, λ l. stop-own ss k es s h p (sym (eqb-true (stopAt ss s) s q)))
+      go true false true d p q u v = (omega arith, λ l o. own-way ss k es s (λ w. eqb-false (stopAt ss s) s q (sym w)) o .unstopped (eqb-true (stateAt ss s .kind) 7 u))
+      go true false false true p q u v = (omega arith, λ l o. omega (arith, own-way ss k es s (λ w. eqb-false (stopAt ss s) s q (sym w)) o .some, eqb-true edges 0 v))
       go true false false false p q u v =
           record {
             listed = h;
@@ -246,7 +266,24 @@ module _ (ss : List State) (k : ℕ) (es : List Edge) where
             unstopped = eqb-false (stateAt ss s .kind) 7 u;
             some = omega (arith, eqb-false edges 0 v);
           }
-      go false b c d p q u v = λ o. let z : _≡_ {A = ℕ} 0 1 = cc in omega arith
+      go false b c d p q u v = (omega arith, λ l o. let z : _≡_ {A = ℕ} 0 1 = cc in omega arith)
+
+  pub meets : {st sc sc′ : List ℤ} {t top top′ : ℕ} → Met ss k st sc sc′ t top top′ → Running ss k es sc top → t < length ss → colour sc t ≡ 0
+      → (top < length ss → (0 < left sc top) × (targetOf es top (passed es sc top) ≡ t))
+      → getD st (8 * t + 5) (pos 0) ≡ first (chain es t) → getD st (8 * t + 7) (pos 0) ≡ pos (degree es t)
+      → Stepped ss k es sc sc′ top′ × (colour sc′ t ≡ 0 → ⊥)
+  meets {st} {sc} {sc′} {t} {top} {top′} m x h white link ew ez = go (firstColour ss k (numberAt st (8 * t + 7)) t) refl (first-tells t (numberAt st (8 * t + 7)) h (ap spot ez))
+    where
+      go : (c : ℕ) → firstColour ss k (numberAt st (8 * t + 7)) t ≡ c → Tells t c → Stepped ss k es sc sc′ top′ × (colour sc′ t ≡ 0 → ⊥)
+      go zero e way =
+          let y = m .pushes e in
+          let z = stepped-as (y .0) (y .1) (goes-on x t h white way link (getD st (8 * t + 5) (pos 0)) (getD st (8 * t + 7) (pos 0)) ew ez) in
+          let o = opened ss k es sc′ (subst (λ (u : ℕ). Running ss k es sc′ u) (y .0) (z .runs)) h in
+          (z, λ q. omega (arith, o .1 .stacked .0 .grey))
+      go (suc c) e w =
+          let y = m .settles (λ q. omega arith) in
+          let q = y .1 ∙ ap (λ (v : ℕ). set sc (4 * t) (pos v)) e in
+          (stepped-as (y .0) q (coloured x t h white (suc c) (omega (arith, w .0)) (w .1)), λ p. omega (arith, ap (λ (l : List ℤ). colour l t) q, number-same sc (4 * t) (pos (suc c)) (omega (arith, x .runs .long))))
 
 pub first-small : (ss : List State) (k edges s : ℕ) → firstColour ss k edges s ≤ 3
 unfolding firstColour
@@ -258,9 +295,3 @@ first-small ss k edges s = go (stops ss k (ruleAt ss s)) (eqb (stopAt ss s) s) (
     go true false false true = omega arith
     go true false false false = omega arith
     go false b c d = omega arith
-
--- one more state gets its colour
-pub colour-more : (f : ℕ → ℕ) (sc : List ℤ) (s c : ℕ) → 4 * s < length sc → ((t : ℕ) → t < s → colour sc t ≡ f t) → c ≡ f s → (t : ℕ) → t < s + 1 → colour (set sc (4 * s) (pos c)) t ≡ f t
-colour-more f sc s c l h e t q =
-    ⊎-elim (λ u. ap (colour (set sc (4 * s) (pos c))) u ∙ number-same sc (4 * s) (pos c) l ∙ e ∙ ap f (sym u))
-    (λ u. number-other sc (4 * s) (4 * t) (pos c) (λ v. u (omega arith)) ∙ h t (omega arith)) (same? t s)

@@ -1,16 +1,18 @@
--- The search from its start to its end: first colours, then visits of the stack's top, in the words that the code reads.
+-- The search from its start to its end, in the words that the code reads: visits of the stack's top, and first colours.
 use mathlib.Core.Path.{_≡_, refl, sym, ap, _∙_, subst}
 use mathlib.Core.Bool.{Bool, true, false, _&&_}
-use mathlib.Core.List.{List, [], _∷_}
+use mathlib.Core.List.{List, [], _∷_, _++_}
 use mathlib.Core.Logic.{_⊎_, inl, inr, ⊎-elim, _↔_}
 use Prim.Native.Nat.{ℕ, zero, suc, _+_, _-_, _*_, _≤_, _<_, _^_}
 use native.Mathlib.Omega.{arith}
 use lib.Dec.{ltb, eqb}
 use lib.IntN.{ℤ, pos, negsuc}
-use lib.ListN.{length, getD, set, drop}
+use lib.ListN.{length, getD, set, take, drop, length-replicate, getD-replicate, replicate-append-replicate}
+use lib.Seq.{take-at, drop-at}
 use borrow.Author.Tests.{lt-ltb, le-ltb, ltb-true, eq-eqb, eqb-true}
 use Rattle.format.specs.Reading.{pick}
 use Rattle.format.specs.Sections.{State, Edge, same, size}
+use Rattle.format.specs.Tables.{zeros}
 use Rattle.format.specs.Links.{first, chain, next, leaving, names, stateAt, stopOf, stops, targetOf}
 use Rattle.laws.specs.Safe.{and-true}
 use Rattle.laws.specs.Own.{Own, same-true}
@@ -19,8 +21,8 @@ use Rattle.tables.specs.Words.{spot, numberAt, spot-word, spot-one, names-numbe
 use Rattle.atn.specs.Records.{noEdge, edgeAt, stateIn, statesOf, Chained, Stopped, rows-long, state-at}
 use Rattle.atn.specs.Chains.{leaving-few, chain-long, Linking, linking}
 use Rattle.atn.specs.Own.{ruleAt, stopAt, degree, Leads, same-self}
-use Rattle.atn.specs.Search.{colour, left, below, passed, pushed, firstColour, Means, Runs, topOf, Running, Stepped, opened, ended-own, own-next, grey-target}
-use Rattle.atn.specs.Steps.{same?, settled, advanced, goes-on, first-means}
+use Rattle.atn.specs.Search.{colour, left, below, passed, firstColour, Means, Runs, Idle, topOf, Running, Stepped, Met, opened, ended-own, own-next, grey-target}
+use Rattle.atn.specs.Steps.{settled, advanced, meets}
 
 -- ---- the next edge
 
@@ -109,13 +111,13 @@ pub rule-small : (ss : List State) (k : ℕ) (R : ℤ) → k < 2 ^ 31 → stops 
 rule-small ss k R h e = ltb-true (spot R) k (sym (names-number k R (omega arith)) ∙ and-true (names k R) _ e .0)
 
 -- The state s is on top of the stack.
-pub record Ready (ss : List State) (es : List Edge) (n m k : ℕ) (st ed sc : List ℤ) (s : ℕ) : Type 0 where
+pub record Ready (ss : List State) (es : List Edge) (n m k : ℕ) (st ed ru sc : List ℤ) (s : ℕ) : Type 0 where
   pub chained : Chained ss es n m st ed
+  pub stopped : Stopped ss k ru
   pub runs : Running ss k es sc s
   pub listed : s < n
-  pub few-rules : k < 2 ^ 31
 
-module _ {ss : List State} {es : List Edge} {n m k : ℕ} {st ed sc : List ℤ} {s : ℕ} (A : Ready ss es n m k st ed sc s) where
+module _ {ss : List State} {es : List Edge} {n m k : ℕ} {st ed ru sc : List ℤ} {s : ℕ} (A : Ready ss es n m k st ed ru sc s) where
   inside : s < length ss
   inside = omega (arith, A .listed, A .chained .all-states)
 
@@ -123,7 +125,7 @@ module _ {ss : List State} {es : List Edge} {n m k : ℕ} {st ed sc : List ℤ} 
   whole = opened ss k es sc (A .runs) inside
 
   pub rule-number : numberAt st (8 * s + 1) < 2 ^ 31
-  rule-number = omega (arith, A .few-rules, ap spot (A .chained .states s (A .listed) .rule), rule-small ss k (ruleAt ss s) (A .few-rules) (whole .1 .stacked .0 .way .ends))
+  rule-number = omega (arith, A .stopped .few-rules, ap spot (A .chained .states s (A .listed) .rule), rule-small ss k (ruleAt ss s) (A .stopped .few-rules) (whole .1 .stacked .0 .way .ends))
 
   pub visit-done : left sc s ≡ 0 → Stepped ss k es sc (set sc (4 * s) (pos 2)) (below sc s)
   visit-done e = settled ss k es (A .runs) inside 2 (omega arith) (λ l. ended-own ss k es sc (whole .1) e)
@@ -132,13 +134,13 @@ module _ {ss : List State} {es : List Edge} {n m k : ℕ} {st ed sc : List ℤ} 
   visit-lost f = settled ss k es (A .runs) inside 3 (omega arith) (λ l. f)
 
 -- It has u edges left, and e is the next.
-pub record Next (ss : List State) (es : List Edge) (n m k : ℕ) (st ed sc : List ℤ) (s u e : ℕ) : Type 0 where
-  pub ready : Ready ss es n m k st ed sc s
+pub record Next (ss : List State) (es : List Edge) (n m k : ℕ) (st ed ru sc : List ℤ) (s u e : ℕ) : Type 0 where
+  pub ready : Ready ss es n m k st ed ru sc s
   pub left-is : u ≡ left sc s
   pub some : u ≡ 0 → ⊥
   pub next-is : e ≡ numberAt sc (4 * s + 1)
 
-module _ {ss : List State} {es : List Edge} {n m k : ℕ} {st ed sc : List ℤ} {s u e : ℕ} (N : Next ss es n m k st ed sc s u e) where
+module _ {ss : List State} {es : List Edge} {n m k : ℕ} {st ed ru sc : List ℤ} {s u e : ℕ} (N : Next ss es n m k st ed ru sc s u e) where
   abbrev l : List ℕ
   l = whole (N .ready) .0
 
@@ -187,12 +189,12 @@ module _ {ss : List State} {es : List Edge} {n m k : ℕ} {st ed sc : List ℤ} 
   no-target t p q o = none-plain ss s (edgeAt es e) (sym p ∙ q ∙ sym (N .ready .chained .all-states)) (own-plain o)
 
 -- That edge leads on to the state t.
-pub record Onto (ss : List State) (es : List Edge) (n m k : ℕ) (st ed sc : List ℤ) (s u e t : ℕ) : Type 0 where
-  pub next : Next ss es n m k st ed sc s u e
+pub record Onto (ss : List State) (es : List Edge) (n m k : ℕ) (st ed ru sc : List ℤ) (s u e t : ℕ) : Type 0 where
+  pub next : Next ss es n m k st ed ru sc s u e
   pub plain-is : t ≡ plainTarget ss s (edgeAt es e)
   pub some : t ≡ n → ⊥
 
-module _ {ss : List State} {es : List Edge} {n m k : ℕ} {st ed sc : List ℤ} {s u e t : ℕ} (O : Onto ss es n m k st ed sc s u e t) where
+module _ {ss : List State} {es : List Edge} {n m k : ℕ} {st ed ru sc : List ℤ} {s u e t : ℕ} (O : Onto ss es n m k st ed ru sc s u e t) where
   abbrev C : Chained ss es n m st ed
   C = O .next .ready .chained
 
@@ -223,11 +225,10 @@ module _ {ss : List State} {es : List Edge} {n m k : ℕ} {st ed sc : List ℤ} 
       })
       (getD ed (8 * e + 7) (pos 0)) (behind (O .next)))
 
-  pub visit-pushed : colour sc t ≡ 0 → Stepped ss k es sc (pushed sc t (getD st (8 * t + 5) (pos 0)) (getD st (8 * t + 7) (pos 0)) s) t
-  visit-pushed q =
+  pub visit-met : colour sc t ≡ 0 → {sc′ : List ℤ} {top : ℕ} → Met ss k st sc sc′ t s top → Stepped ss k es sc sc′ top
+  visit-met q m =
       let w = C .states t target-listed in
-      goes-on ss k es (O .next .ready .runs) t target-inside q (λ h. (some-left (O .next), sym goes-to))
-      (getD st (8 * t + 5) (pos 0)) (getD st (8 * t + 7) (pos 0)) (w .starts) (w .count ∙ ap pos (chain-long es t))
+      meets ss k es m (O .next .ready .runs) target-inside q (λ h. (some-left (O .next), sym goes-to)) (w .starts) (w .count ∙ ap pos (chain-long es t)) .0
 
   -- t is grey, or not safe
   pub bad-colour : (colour sc t ≡ 2 → ⊥) → (colour sc t ≡ 0 → ⊥) → Own ss k es s → ⊥
@@ -291,72 +292,60 @@ module _ {n k : ℕ} {st ru : List ℤ} {s R : ℕ} (A : Ruled n k st ru s R) wh
 
 -- ---- the whole search
 
--- The search of n states: those below i have their colours, but for the stack.
-pub record Searching (ss : List State) (k : ℕ) (es : List Edge) (n : ℕ) (sc : List ℤ) (top i : ℕ) : Type 0 where
-  pub runs : Running ss k es sc top
-  pub near : i ≤ n
-  pub seen : (s : ℕ) → s < i → colour sc s ≡ 0 → ⊥
-  pub last : i ≡ n → top ≡ n
-
--- The colour 2 is that of the states that are safe for their own rule.
-pub record Decided (ss : List State) (k : ℕ) (es : List Edge) (n : ℕ) (sc : List ℤ) : Type 0 where
-  pub long : 4 * n ≤ length sc
-  pub safe-is : (s : ℕ) → s < n → colour sc s ≡ 2 ↔ Own ss k es s
-
 module _ {ss : List State} {es : List Edge} {n m k : ℕ} {st ed : List ℤ} (C : Chained ss es n m st ed) where
-  pub search-starts : {sc : List ℤ} → 4 * n ≤ length sc → ((s : ℕ) → s < n → colour sc s ≡ firstColour ss k (numberAt st (8 * s + 7)) s) → Searching ss k es n sc n 0
-  search-starts {sc} l f =
+  -- nothing is met yet where all is zero
+  pub idle-zeros : (l : ℕ) → 4 * n ≤ l → Idle ss k es (zeros l)
+  idle-zeros l h =
       record {
-        near = omega arith;
-        seen = λ s h. absurd (omega arith);
-        last = λ e. refl;
-        runs = record { stack = []; tops = sym (C .all-states); runs = record { stacked = tt; long = omega (arith, C .all-states); known = λ s h. known s (omega (arith, C .all-states)) h } };
+        stacked = tt;
+        long = omega (arith, C .all-states, length-replicate l (pos 0));
+        known = λ s b. subst (λ (z : ℤ). Means ss k es [] s (spot z)) (sym (getD-replicate l (4 * s) (pos 0) (pos 0) (omega (arith, C .all-states)))) tt;
       }
-    where
-      known : (s : ℕ) → s < n → s < length ss → Means ss k es [] s (colour sc s)
-      known s h h′ =
-          subst (λ (c : ℕ). Means ss k es [] s c) (sym (f s h))
-          (first-means ss k es s (numberAt st (8 * s + 7)) h′ (ap spot (C .states s h .count) ∙ chain-long es s))
 
-  module _ {sc : List ℤ} {top i : ℕ} (x : Searching ss k es n sc top i) where
-    pub search-steps : {sc′ : List ℤ} {top′ : ℕ} → i < n → Stepped ss k es sc sc′ top′ → Searching ss k es n sc′ top′ i
-    search-steps h y =
-        record { runs = y .runs; near = omega arith; last = λ e. absurd (omega arith); seen = λ s l. y .kept s (omega (arith, C .all-states)) (x .seen s l) }
+  module _ {sc : List ℤ} where
+    -- the search that begins at a white state
+    pub search-begins : Idle ss k es sc → {s : ℕ} → s < n → colour sc s ≡ 0 → {sc′ : List ℤ} {top : ℕ} → Met ss k st sc sc′ s n top → Stepped ss k es sc sc′ top × (colour sc′ s ≡ 0 → ⊥)
+    search-begins r {s} h white m =
+        let w = C .states s h in
+        meets ss k es m (record { stack = []; runs = r; tops = sym (C .all-states) }) (omega (arith, C .all-states)) white (λ l. absurd (omega (arith, C .all-states))) (w .starts) (w .count ∙ ap pos (chain-long es s))
 
-    pub search-passes : i < n → top ≡ n → (colour sc i ≡ 0 → ⊥) → Searching ss k es n sc top (i + 1)
-    search-passes h e c =
-        record {
-          runs = x .runs;
-          near = omega arith;
-          last = λ q. e;
-          seen = λ s l z. ⊎-elim (λ q. c (ap (colour sc) (sym q) ∙ z)) (λ q. x .seen s (omega arith) z) (same? s i);
-        }
-
-    -- with an empty stack, a white state is the next to begin with
-    pub search-begins : i < n → top ≡ n → colour sc i ≡ 0 → Stepped ss k es sc (pushed sc i (getD st (8 * i + 5) (pos 0)) (getD st (8 * i + 7) (pos 0)) n) i
-    search-begins h e c =
-        let w = C .states i h in
-        goes-on ss k es (subst (λ (u : ℕ). Running ss k es sc u) e (x .runs)) i (omega (arith, C .all-states)) c (λ l. absurd (omega (arith, C .all-states)))
-        (getD st (8 * i + 5) (pos 0)) (getD st (8 * i + 7) (pos 0)) (w .starts) (w .count ∙ ap pos (chain-long es i))
-
-    pub top-listed : (top ≡ n → ⊥) → top < n
-    top-listed f = go (x .runs .stack) (x .runs .runs) (x .runs .tops)
+    pub top-listed : {top : ℕ} → Running ss k es sc top → (top ≡ n → ⊥) → top < n
+    top-listed {top} x f = go (x .stack) (x .runs) (x .tops)
       where
         go : (l : List ℕ) → Runs ss k es sc l → top ≡ topOf ss l → top < n
         go [] r e = absurd (f (e ∙ C .all-states))
         go (s ∷ l) r e = omega (arith, e, r .stacked .0 .way .listed, C .all-states)
 
-    pub search-ends : n ≤ i → Decided ss k es n sc
-    search-ends h = go (x .runs .stack) (x .runs .runs) (x .runs .tops)
+    pub search-ends : {top : ℕ} → Running ss k es sc top → top ≡ n → Idle ss k es sc
+    search-ends {top} x q = go (x .stack) (x .runs) (x .tops)
       where
-        go : (l : List ℕ) → Runs ss k es sc l → top ≡ topOf ss l → Decided ss k es n sc
-        go [] r e =
-            record { long = omega (arith, r .long, C .all-states); safe-is = λ s l. decided s (colour sc s) (r .known s (omega (arith, C .all-states))) (x .seen s (omega arith)) }
-          where
-            decided : (s c : ℕ) → Means ss k es [] s c → (c ≡ 0 → ⊥) → c ≡ 2 ↔ Own ss k es s
-            decided s zero m f = absurd (f refl)
-            decided s (suc zero) m f = absurd m
-            decided s (suc (suc zero)) m f = ((λ q. m), (λ q. refl))
-            decided s (suc (suc (suc zero))) m f = ((λ q. absurd (omega arith)), (λ q. absurd (m q)))
-            decided s (suc (suc (suc (suc c)))) m f = absurd m
-        go (s ∷ l) r e = absurd (omega (arith, e, r .stacked .0 .way .listed, C .all-states, x .last (omega (arith, x .near))))
+        go : (l : List ℕ) → Runs ss k es sc l → top ≡ topOf ss l → Idle ss k es sc
+        go [] r e = r
+        go (s ∷ l) r e = absurd (omega (arith, e, r .stacked .0 .way .listed, C .all-states))
+
+-- the colour 2 is that of a safe state, where it was met
+pub idle-decides : {ss : List State} {k : ℕ} {es : List Edge} {sc : List ℤ} → Idle ss k es sc → {s : ℕ} → s < length ss → (colour sc s ≡ 0 → ⊥) → eqb (colour sc s) 2 ≡ true ↔ Own ss k es s
+idle-decides {ss} {k} {es} {sc} r {s} h f = go (colour sc s) (r .known s h) f
+  where
+    go : (c : ℕ) → Means ss k es [] s c → (c ≡ 0 → ⊥) → eqb c 2 ≡ true ↔ Own ss k es s
+    go zero m f = absurd (f refl)
+    go (suc zero) m f = absurd m
+    go (suc (suc zero)) m f = ((λ q. m), (λ q. refl))
+    go (suc (suc (suc zero))) m f = ((λ q. absurd (omega (arith, eqb-true 3 2 q))), (λ q. absurd (m q)))
+    go (suc (suc (suc (suc c)))) m f = absurd m
+
+-- ---- the words that the search takes: the first a of a scratch that is zero
+
+module _ (xs : List ℤ) (blank : xs ≡ zeros (length xs)) (a : ℕ) (h : a ≤ length xs) where
+  split : xs ≡ zeros a ++ zeros (length xs - a)
+  split = let e : a + (length xs - a) ≡ length xs = omega arith in blank ∙ sym (replicate-append-replicate a (length xs - a) (pos 0) ∙ ap zeros e)
+
+  pub part-zero : take a xs ≡ zeros a
+  part-zero = ap (take a) split ∙ take-at (zeros a) (zeros (length xs - a)) a (length-replicate a (pos 0))
+
+  -- cleared again, they leave all zero
+  pub part-cleared : (ys zs : List ℤ) → length ys ≡ a → zs ≡ zeros (length (take a (ys ++ drop a xs))) → zs ++ drop a (ys ++ drop a xs) ≡ zeros (length xs)
+  part-cleared ys zs l e =
+      let p : zs ≡ zeros a = e ∙ ap (λ (u : List ℤ). zeros (length u)) (take-at ys (drop a xs) a l) ∙ ap zeros l in
+      let q : drop a (ys ++ drop a xs) ≡ zeros (length xs - a) = drop-at ys (drop a xs) a l ∙ ap (drop a) split ∙ drop-at (zeros a) (zeros (length xs - a)) a (length-replicate a (pos 0)) in
+      (λ i. p i ++ q i) ∙ sym split ∙ blank

@@ -2,22 +2,27 @@
 use mathlib.Core.Path.{_≡_, refl, sym, ap, _∙_}
 use mathlib.Core.List.{List}
 use mathlib.Core.Bool.{Bool, true, false}
-use Prim.Native.Nat.{ℕ, _+_, _<_}
+use Prim.Native.Nat.{ℕ, zero, suc, _+_, _-_, _≤_, _<_}
+use native.Mathlib.Omega.{arith}
 use lib.Dec.{ltb}
 use lib.IntN.{ℤ, pos, negsuc}
 use lib.ListN.{length, getD}
+use borrow.Author.Tests.{ltb-true}
 use Rattle.format.specs.Reading.{Table, Outcome, ok, no, Prog, done, refuse, word, run, ended, refusal, pick, _>>=_, natural, listed, get, index}
 use Rattle.format.specs.Sections.{Edge, meaning, testA, testB, edge}
 use Rattle.laws.specs.Reading.{clash}
-use Rattle.laws.specs.Running.{after, run-bind, ok-then}
+use Rattle.laws.specs.Running.{after, run-bind, ok-then, no-then}
 use Rattle.laws.specs.Collect.{put}
+use Rattle.words.specs.Signs.{signOf}
+use Rattle.words.specs.declared.Sign.the-variants.{Natural, Negative}
+use Rattle.words.specs.Laws.{natural-ok, natural-no, get-ok, get-no, index-ok, run-done, run-refuse}
 use Rattle.inplace.specs.Rows.{edgeRow}
 use Rattle.inplace.specs.Links.{Net, net, chained, linked, edgeOne}
 use Rattle.edges.specs.declared.reading.RawEdge.{RawEdge}
 use Rattle.edges.specs.Kinds.{meaning-source}
-use Rattle.edges.specs.Edge.{restOf, typeOn, sixWords, checked, tested, Row, row, rowed}
+use Rattle.edges.specs.Edge.{raw, restOf, typeOn, sixWords, checked, tested, Row, row, rowed}
 
--- ---- a word, and an index, is one word
+-- ---- an index is one word
 
 module _ (f : ℕ) (ws : List ℤ) (room : Table → ℕ) (at : ℕ) where
   word-next : {A : Type 0} (k : ℕ → ℤ → Prog A) → ((v : ℤ) (m : ℕ) (a : A) (n : ℕ) → ok a n ≡ run (k at v) ws room m → n ≡ m)
@@ -29,10 +34,6 @@ module _ (f : ℕ) (ws : List ℤ) (room : Table → ℕ) (at : ℕ) where
       go true q = stays (getD ws at (pos 0)) (at + 1) a n q
       go false q = clash q
 
-  pub get-next : {v : ℤ} {n : ℕ} → ok v n ≡ run (get f) ws room at → n ≡ at + 1
-  unfolding run get
-  get-next e = word-next (λ p v. done v) (λ v m a n q. cc) e
-
   natural-stays : (v : ℤ) (m i n : ℕ) → ok i n ≡ run (natural f at v) ws room m → n ≡ m
   unfolding run
   natural-stays (pos k) m i n q = cc
@@ -41,6 +42,77 @@ module _ (f : ℕ) (ws : List ℤ) (room : Table → ℕ) (at : ℕ) where
   pub index-next : {i n : ℕ} → ok i n ≡ run (index f) ws room at → n ≡ at + 1
   unfolding index
   index-next e = word-next (natural f) natural-stays e
+
+-- ---- the six words, each by its own place
+
+module _ (f : ℕ) (ws : List ℤ) (room : Table → ℕ) (at : ℕ) where
+  word-there : {A : Type 0} (k : ℕ → ℤ → Prog A) {a : A} {n : ℕ} → ok a n ≡ run (word f k) ws room at → at < length ws
+  unfolding run
+  word-there {A} k {a} {n} e = go (ltb at (length ws)) refl e
+    where
+      go : (b : Bool) → ltb at (length ws) ≡ b → ok a n ≡ pick b (run (k at (getD ws at (pos 0))) ws room (at + 1)) (no (ended f (length ws))) → at < length ws
+      go true h q = ltb-true at (length ws) h
+      go false h q = clash q
+
+  -- an index that was read was there
+  pub index-there : {i n : ℕ} → ok i n ≡ run (index f) ws room at → at < length ws
+  unfolding index
+  index-there e = word-there (natural f) e
+
+  -- a word that is there, by its sign
+  index-got : {i : ℕ} → at < length ws → signOf (getD ws at (pos 0)) ≡ Natural i → ok i (at + 1) ≡ run (index f) ws room at
+  index-got {i} h s = run-done (natural-ok f at i (getD ws at (pos 0)) s) ws room (at + 1) ∙ sym (index-ok f ws room at (get-ok f ws room at h))
+
+  index-below : at < length ws → signOf (getD ws at (pos 0)) ≡ Negative → no (refusal 2 f at (getD ws at (pos 0))) ≡ run (index f) ws room at
+  index-below h s = run-refuse (natural-no f at (getD ws at (pos 0)) s) ws room (at + 1) ∙ sym (index-ok f ws room at (get-ok f ws room at h))
+
+  -- the k-th word from a place on
+  word-at : (k : ℕ) → at + k < length ws → ok (getD ws (at + k) (pos 0)) (at + (k + 1)) ≡ run (get f) ws room (at + k)
+  word-at k h = let q : at + k + 1 ≡ at + (k + 1) = omega arith in rw q at (get-ok f ws room (at + k) h)
+
+module _ (ws : List ℤ) (room : Table → ℕ) (at : ℕ) where
+  abbrev nth : ℕ → ℤ
+  nth k = getD ws (at + k) (pos 0)
+
+  pub six-ok : {s t : ℕ} → at + 6 ≤ length ws → signOf (getD ws at (pos 0)) ≡ Natural s → signOf (nth 1) ≡ Natural t
+      → ok (raw s t (nth 2) (nth 3) (nth 4) (nth 5)) (at + 6) ≡ run sixWords ws room at
+  unfolding run sixWords typeOn restOf
+  six-ok {s} {t} h p q =
+      let q1 : at + 1 + 1 ≡ at + 2 = omega arith in
+      sym (ok-then (index 24) _ ws room at (index-got 24 ws room at (omega arith) p)
+      ∙ ok-then (index 25) _ ws room (at + 1) (rw q1 at (index-got 25 ws room (at + 1) (omega arith) q))
+      ∙ ok-then (get 26) _ ws room (at + 2) (word-at 26 ws room at 2 (omega arith))
+      ∙ ok-then (get 27) _ ws room (at + 3) (word-at 27 ws room at 3 (omega arith))
+      ∙ ok-then (get 28) _ ws room (at + 4) (word-at 28 ws room at 4 (omega arith))
+      ∙ ok-then (get 29) _ ws room (at + 5) (word-at 29 ws room at 5 (omega arith)))
+
+  -- the first of them, or the second, is negative
+  pub six-first : at < length ws → signOf (getD ws at (pos 0)) ≡ Negative → no (refusal 2 24 at (getD ws at (pos 0))) ≡ run sixWords ws room at
+  unfolding sixWords
+  six-first h p = sym (no-then (index 24) _ ws room at (index-below 24 ws room at h p))
+
+  pub six-second : {s : ℕ} → at + 1 < length ws → signOf (getD ws at (pos 0)) ≡ Natural s → signOf (nth 1) ≡ Negative → no (refusal 2 25 (at + 1) (nth 1)) ≡ run sixWords ws room at
+  unfolding sixWords
+  six-second h p q = sym (ok-then (index 24) _ ws room at (index-got 24 ws room at (omega arith) p) ∙ no-then (index 25) _ ws room (at + 1) (index-below 25 ws room (at + 1) h q))
+
+  -- fewer than four words are left for the type and the arguments
+  pub type-ended : (s t : ℕ) → at ≤ length ws → length ws < at + 4 → no (ended (26 + (length ws - at)) (length ws)) ≡ run (typeOn s t) ws room at
+  unfolding typeOn restOf
+  type-ended s t l h = by (length ws - at) refl
+    where
+      by : (d : ℕ) → length ws - at ≡ d → no (ended (26 + d) (length ws)) ≡ run (typeOn s t) ws room at
+      by zero e = sym (no-then (get 26) _ ws room at (get-no 26 ws room at (omega arith)))
+      by (suc zero) e = sym (ok-then (get 26) _ ws room at (get-ok 26 ws room at (omega arith)) ∙ no-then (get 27) _ ws room (at + 1) (get-no 27 ws room (at + 1) (omega arith)))
+      by (suc (suc zero)) e =
+          sym (ok-then (get 26) _ ws room at (get-ok 26 ws room at (omega arith))
+          ∙ ok-then (get 27) _ ws room (at + 1) (word-at 27 ws room at 1 (omega arith))
+          ∙ no-then (get 28) _ ws room (at + 2) (get-no 28 ws room (at + 2) (omega arith)))
+      by (suc (suc (suc zero))) e =
+          sym (ok-then (get 26) _ ws room at (get-ok 26 ws room at (omega arith))
+          ∙ ok-then (get 27) _ ws room (at + 1) (word-at 27 ws room at 1 (omega arith))
+          ∙ ok-then (get 28) _ ws room (at + 2) (word-at 28 ws room at 2 (omega arith))
+          ∙ no-then (get 29) _ ws room (at + 3) (get-no 29 ws room (at + 3) (omega arith)))
+      by (suc (suc (suc (suc d)))) e = absurd (omega arith)
 
 -- ---- six words, and their tests, are `edge`
 

@@ -2,12 +2,13 @@
 // From the Rust's atn/serialized.rs: the six reads of `deserialize_edges`.
 
 ghost use mathlib.Core.Path.{_≡_};
-ghost use Prim.Native.Nat.{ℕ, _+_, _<_, _^_};
-ghost use Rattle.format.specs.Reading.{Table, run};
-ghost use Rattle.edges.specs.Edge.{outcomeRaw, sixWords, typeOn, restOf, Sound};
+ghost use Prim.Native.Nat.{ℕ, _+_, _≤_, _<_};
+ghost use lib.ListN.{length};
+ghost use Rattle.format.specs.Reading.{Table, no, run};
+ghost use Rattle.edges.specs.Edge.{outcomeRaw, sixWords, Sound};
 use format::Refusal;
 use words::Index;
-use words::Word;
+use words::Sign;
 
 // The six words of an edge as they were read: word 24, word 25, the type and the arguments.
 pub struct RawEdge {
@@ -25,43 +26,48 @@ pub enum RawStep {
     Refused(Refusal),
 }
 
-// Fields 28 and 29.
-fn read_rest(words: &[i32], at: usize, source: usize, target: usize, kind: i32, a: i32) -> RawStep
-    requires { ⌜ (source < 2 ^ 31) × (target < 2 ^ 31) ⌝ }
-    ensures says { λ r. ⌜ ((rooms : Table → ℕ) → outcomeRaw r ≡ run (restOf source target kind a) (now (words .entry)) rooms at) ⌝ }
-    ensures sound { λ r. ⌜ Sound (at + 2) r ⌝ }
+// Why the edge is refused where fewer than six words are left: by its first two words, if they are there, or as ended at the first
+// word that is not.
+fn refuse_edge(words: &[i32], at: usize) -> Refusal
+    requires { ⌜ length (now words) < at + 6 ⌝ }
+    ensures { λ r. ⌜ ((rooms : Table → ℕ) → no r ≡ run sixWords (now (words .entry)) rooms at) ⌝ }
 {
-    match words::read(words, at, 28) {
-        Word::Got(b, second) => match words::read(words, second, 29) {
-            Word::Got(c, next) => RawStep::Got(
-                RawEdge {
-                    source,
-                    target,
-                    kind,
-                    a,
-                    b,
-                    c,
-                },
-                next,
-            ),
-            Word::Refused(r) => RawStep::Refused(r),
+    match words::read_usize(words, at, 24) {
+        Index::Got(_, second) => match words::read_usize(words, second, 25) {
+            Index::Got(_, _) => Refusal {
+                number: 1,
+                field: 24 + (words.len() - at) as u32,
+                place: words.len(),
+                value: 0,
+            },
+            Index::Refused(r) => r,
         },
-        Word::Refused(r) => RawStep::Refused(r),
+        Index::Refused(r) => r,
     }
 }
 
-// Fields 26 and 27, and what follows.
-fn read_type(words: &[i32], at: usize, source: usize, target: usize) -> RawStep
-    requires { ⌜ (source < 2 ^ 31) × (target < 2 ^ 31) ⌝ }
-    ensures says { λ r. ⌜ ((rooms : Table → ℕ) → outcomeRaw r ≡ run (typeOn source target) (now (words .entry)) rooms at) ⌝ }
-    ensures sound { λ r. ⌜ Sound (at + 4) r ⌝ }
+// Six words that are left, each by its own place: so the place of the next edge does not wait for what was read.
+fn take_edge(words: &[i32], at: usize) -> RawStep
+    requires { ⌜ at + 6 ≤ length (now words) ⌝ }
+    ensures says { λ r. ⌜ ((rooms : Table → ℕ) → outcomeRaw r ≡ run sixWords (now (words .entry)) rooms at) ⌝ }
+    ensures sound { λ r. ⌜ Sound (at + 6) r ⌝ }
 {
-    match words::read(words, at, 26) {
-        Word::Got(kind, second) => match words::read(words, second, 27) {
-            Word::Got(a, next) => read_rest(words, next, source, target, kind, a),
-            Word::Refused(r) => RawStep::Refused(r),
+    match words::sign_of(words[at]) {
+        Sign::Natural(source) => match words::sign_of(words[at + 1]) {
+            Sign::Natural(target) => RawStep::Got(
+                RawEdge {
+                    source,
+                    target,
+                    kind: words[at + 2],
+                    a: words[at + 3],
+                    b: words[at + 4],
+                    c: words[at + 5],
+                },
+                at + 6,
+            ),
+            Sign::Negative => RawStep::Refused(words::refused(2, 25, at + 1, words[at + 1])),
         },
-        Word::Refused(r) => RawStep::Refused(r),
+        Sign::Negative => RawStep::Refused(words::refused(2, 24, at, words[at])),
     }
 }
 
@@ -70,11 +76,10 @@ pub fn read_edge(words: &[i32], at: usize) -> RawStep
     ensures says { λ r. ⌜ ((rooms : Table → ℕ) → outcomeRaw r ≡ run sixWords (now (words .entry)) rooms at) ⌝ }
     ensures sound { λ r. ⌜ Sound (at + 6) r ⌝ }
 {
-    match words::read_usize(words, at, 24) {
-        Index::Got(source, second) => match words::read_usize(words, second, 25) {
-            Index::Got(target, next) => read_type(words, next, source, target),
-            Index::Refused(r) => RawStep::Refused(r),
-        },
-        Index::Refused(r) => RawStep::Refused(r),
+    if at < words.len() {
+        if words.len() - at >= 6 {
+            return take_edge(words, at);
+        }
     }
+    RawStep::Refused(refuse_edge(words, at))
 }

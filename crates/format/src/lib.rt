@@ -57,12 +57,19 @@ pub enum SetPart {
     Denied(Denial),
 }
 
-// How many words follow a state of each of the thirteen types.
-pub const FOLLOWS: [usize; 13] = [0, 1, 1, 2, 2, 2, 1, 1, 1, 1, 1, 1, 2];
+// How many words follow a state of each of the thirteen types. Bytes, since the table is laid out anew where it is read.
+pub const FOLLOWS: [u8; 13] = [0, 1, 1, 2, 2, 2, 1, 1, 1, 1, 1, 1, 2];
+
+// A byte, wider.
+fn wide(x: u8) -> usize
+    ensures { λ r. ⌜ r ≡ x ⌝ }
+{
+    x as usize
+}
 
 // The table, read: 0 for what is no state type.
 pub fn words_after(kind: usize) -> usize
     ensures { λ r. ⌜ r ≡ getD follows kind 0 ⌝ }
 {
-    if kind < 13 { FOLLOWS[kind] } else { 0 }
+    if kind < 13 { wide(FOLLOWS[kind]) } else { 0 }
 }

@@ -7,7 +7,8 @@ use native.Mathlib.Omega.{arith}
 use native.Mathlib.Nat.{add-zero}
 use native.Mathlib.Numerals.{add-one}
 use lib.IntN.{ℤ, pos}
-use borrow.Author.Tests.{lt-ltb, le-ltb, le-leb, lt-leb}
+use lib.Dec.{ltb}
+use borrow.Author.Tests.{lt-ltb, le-ltb, ltb-true, ltb-false, le-leb, lt-leb}
 use Rattle.format.specs.Reading.{Table, Edges, ok, no, run, noRoom, pick}
 use Rattle.format.specs.Sections.{same, size, bit, edgeOf}
 use Rattle.format.specs.Links.{names}
@@ -77,6 +78,13 @@ module _ (n k : ℕ) (ru : List ℤ) (t : Net) (e : ℕ) where
       pick-end (returning n k ru t e) (size (stopFor ru t e)) n
       (λ q. names-below n (stopFor ru t e) (and-both c d (and-both b (c && d) (and-both a (b && (c && d)) q .1) .1) .1)) h
 
+  pub return-below : ltb (returnStop n k ru t e) n ≡ returning n k ru t e
+  return-below = by (ltb (returnStop n k ru t e) n) refl
+    where
+      by : (b : Bool) → ltb (returnStop n k ru t e) n ≡ b → b ≡ returning n k ru t e
+      by true q = sym (has-return (ltb-true (returnStop n k ru t e) n q))
+      by false q = sym (no-return (ltb-false (returnStop n k ru t e) n q))
+
 -- ---- counting
 
 module _ (n k : ℕ) (ru : List ℤ) (t : Net) where
@@ -89,9 +97,13 @@ module _ (n k : ℕ) (ru : List ℤ) (t : Net) where
       one true = omega arith
       one false = omega arith
 
-  pub returns-more : (m : ℕ) {d r : ℕ} → d ≡ returnsOf n k ru t m → r ≡ bit (returning n k ru t m) → d + r ≡ returnsOf n k ru t (m + 1)
+  pub returns-more : (m : ℕ) {d : ℕ} → d ≡ returnsOf n k ru t m → returning n k ru t m ≡ true → d + 1 ≡ returnsOf n k ru t (m + 1)
   unfolding returnsOf
-  returns-more m p q = rw (add-one, p, q) refl
+  returns-more m p h = rw (add-one m, h, p) refl
+
+  pub returns-same : (m : ℕ) {d : ℕ} → d ≡ returnsOf n k ru t m → returning n k ru t m ≡ false → d ≡ returnsOf n k ru t (m + 1)
+  unfolding returnsOf
+  returns-same m {d} p h = rw (add-one m, h, ← p) (sym (add-zero d))
 
 -- ---- adding
 

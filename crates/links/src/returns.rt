@@ -8,7 +8,7 @@ ghost use Prim.Native.Nat.{ℕ, _+_, _*_, _<_, _≤_, _^_};
 ghost use lib.IntN.{ℤ, pos};
 ghost use lib.ListN.{length};
 ghost use Rattle.format.specs.Reading.{Table, Edges, run};
-ghost use Rattle.format.specs.Sections.{bit, size, edgeOf};
+ghost use Rattle.format.specs.Sections.{size, edgeOf};
 ghost use Rattle.inplace.specs.Held.{held, with};
 ghost use Rattle.inplace.specs.Rows.{wordOf, edgeRow};
 ghost use Rattle.inplace.specs.Links.{net, linked, growing, returning, returnsOf, returned, returnsAlong, returnsFrom, returns as returnsIn, derivedCounted};
@@ -37,19 +37,15 @@ fn return_stop(states: &[i32], edges: &[i32], rules: &[i32], n: usize, k: usize,
     if stop < n { stop } else { n }
 }
 
-// 1 where the edge e has a return edge, else 0.
-fn count_return(states: &[i32], edges: &[i32], rules: &[i32], n: usize, k: usize, e: usize) -> usize
+// Whether the edge e has a return edge.
+fn has_return(states: &[i32], edges: &[i32], rules: &[i32], n: usize, k: usize, e: usize) -> bool
     requires { ⌜ (Listed 8 n (length (now states))) × (8 * e + 8 ≤ length (now edges)) × (Listed 3 k (length (now rules))) ⌝ }
-    ensures { λ r. ⌜ r ≡ bit (returning n k (now (rules .entry)) (net (now (states .entry)) (now (edges .entry))) e) ⌝ }
+    ensures { λ r. ⌜ r ≡ returning n k (now (rules .entry)) (net (now (states .entry)) (now (edges .entry))) e ⌝ }
 {
-    if return_stop(states, edges, rules, n, k, e) < n {
-        1
-    } else {
-        0
-    }
+    return_stop(states, edges, rules, n, k, e) < n
 }
 
-// How many of the edges have one.
+// How many of the edges have one. Few do, and the sum is left alone for the others.
 fn count_returns(
     states: &[i32],
     edges: &[i32],
@@ -64,8 +60,12 @@ fn count_returns(
     let mut d: usize = 0;
     let mut i: usize = 0;
     while i < m {
-        d += count_return(states, edges, rules, n, k, i);
-        i += 1;
+        if has_return(states, edges, rules, n, k, i) {
+            d += 1;
+            i += 1;
+        } else {
+            i += 1;
+        }
     }
     d
 }

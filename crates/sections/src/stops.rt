@@ -12,8 +12,8 @@ fn stop_at(states: &[i32], rules: &mut [i32], k: usize, s: usize)
     ensures { λ _. ⌜ now (rules .exit) ≡ stopAt k (now (states .entry)) s (now (rules .entry)) ⌝ }
 {
     let kind = tables::number_at(states, 8 * s);
-    let rule = tables::number_at(states, 8 * s + 1);
     if kind == 7 {
+        let rule = tables::number_at(states, 8 * s + 1);
         if rule < k {
             tables::store(rules, 3 * rule + 1, s);
         }

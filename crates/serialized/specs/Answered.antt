@@ -51,7 +51,7 @@ readFrom at c =
 
 -- What is asked before the tables are settled, by what filling them came to: of an acceptance.
 abbrev pub Ready : ℕ → Decoded → Tables → Type 0
-Ready at (D.Accepted c) t = (at ≤ c .words) × (Linked (t .states) (t .edges) (t .rules) (c .states) (c .edges) (c .rules)) × (4 * c .states ≤ length (t .scratch))
+Ready at (D.Accepted c) t = (at ≤ c .words) × (Linked (t .states) (t .edges) (t .rules) (c .states) (c .edges) (c .rules)) × (4 * c .states ≤ length (t .scratch)) × (t .scratch ≡ zeros (length (t .scratch)))
 Ready at (D.Refused q) t = Unit {0}
 
 -- And how they are settled: tail calls are marked and scratch is zero; or all is zero.
@@ -110,6 +110,10 @@ module _ (lent : Table → ℕ) (ws : List ℤ) (at : ℕ) where
     unfolding countsOf unmarked
     tables-linked = such (λ c t. Linked (t .states) (t .edges) (t .rules) (c .states) (c .edges) (c .rules)) (read-linked lent ws at r (c .words) (a .ran) (λ i x. pos (plain (length (r .edges)) i)) _)
 
+    pub scratch-zero : t .scratch ≡ zeros (lent Scratch)
+    unfolding unmarked
+    scratch-zero = such (λ c t. t .scratch ≡ zeros (lent Scratch)) refl
+
     -- and what is then answered and left
     pub counts-are : D.Accepted (readFrom at c) ≡ decoded lent ws at .told
     unfolding decoded countsOf
@@ -127,7 +131,7 @@ module _ (lent : Table → ℕ) (ws : List ℤ) (at : ℕ) where
 
   -- tables that were filled are ready, and what is then answered and left is the definition's
   pub ready : (d : Decoded) (t : Tables) → held d t ≡ filled → length (t .scratch) ≡ lent Scratch → Ready at d t
-  ready (D.Accepted c) t e h = let a = accepts c t e in (place-is c t a, tables-linked c t a, omega (arith, scratch-long c t a))
+  ready (D.Accepted c) t e h = let a = accepts c t e in (place-is c t a, tables-linked c t a, omega (arith, scratch-long c t a), scratch-zero c t a ∙ ap zeros (sym h))
   ready (D.Refused q) t e h = tt
 
   pub concluded : (d : Decoded) (t : Tables) (r : Decoded) (u : Tables) → held d t ≡ filled → length (t .scratch) ≡ lent Scratch → blank (lengths t) ≡ blank lent

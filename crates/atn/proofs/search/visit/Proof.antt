@@ -4,7 +4,7 @@ use native.Mathlib.Omega.{arith}
 use denote.Ref.{now}
 use Rattle.atn.specs.Records.{statesOf, edgesOf}
 use Rattle.atn.specs.Search.{stepped-as}
-use Rattle.atn.specs.Visits.{Next, Onto, rule-number, next-listed, left-few, target-listed, no-target, bad-colour, visit-done, visit-lost, visit-passed, visit-pushed}
+use Rattle.atn.specs.Visits.{Next, Onto, rule-number, next-listed, left-few, target-listed, no-target, bad-colour, visit-done, visit-lost, visit-passed, visit-met}
 use borrow.Author.Needs.{needs}
 use Rattle.atn.proofs.search.visit.Statement.{statement}
 use Rattle.atn.proofs.search.visit.Tie as tie
@@ -43,7 +43,7 @@ number-at-requires-2 c κs = search needs
 
 -- the next edge
 next : (c : tie.After-number-at2) → let w = c .before .before .before in let a = w .before .before .args in
-    Next (statesOf (a .n) (now (a .states))) (edgesOf (a .m) (now (a .edges))) (a .n) (a .m) (a .k) (now (a .states)) (now (a .edges)) (now (a .scratch)) (a .s)
+    Next (statesOf (a .n) (now (a .states))) (edgesOf (a .m) (now (a .edges))) (a .n) (a .m) (a .k) (now (a .states)) (now (a .edges)) (now (a .rules)) (now (a .scratch)) (a .s)
     (w .number-at .result) (c .number-at2 .result)
 next c =
     let w = c .before .before .before in
@@ -70,7 +70,7 @@ returns-2 c =
 
 -- its target
 onto : (c : tie.Else2) → let e = c .before .before in let w = e .before .before .before in let a = w .before .before .args in
-    Onto (statesOf (a .n) (now (a .states))) (edgesOf (a .m) (now (a .edges))) (a .n) (a .m) (a .k) (now (a .states)) (now (a .edges)) (now (a .scratch)) (a .s)
+    Onto (statesOf (a .n) (now (a .states))) (edgesOf (a .m) (now (a .edges))) (a .n) (a .m) (a .k) (now (a .states)) (now (a .edges)) (now (a .rules)) (now (a .scratch)) (a .s)
     (w .number-at .result) (e .number-at2 .result) (c .before .plain-target .result)
 onto c = record { next = next (c .before .before); plain-is = c .before .plain-target .ensures; some = c .if2 .left }
 
@@ -100,10 +100,11 @@ returns-3 c =
     let w3 = i3 .before in
     stepped-as refl (z .pass .ensures) (visit-passed (onto (c .before .before .before .before .before .before)) (sym (w3 .number-at3 .ensures) ∙ i3 .if3 .taken))
 
-push-requires : tie.Need-push-requires
-push-requires c κs =
+meet-requires : tie.Need-meet-requires
+meet-requires c κs =
     let s = c .before .before .before .before .before .before .before .before .before .before .before .before in
-    omega (arith, target-listed (onto (c .before .before .before .before .before)), s .pre .listed, s .pre .chained .few-states, s .pre .chained .states-long, s .pre .chained .all-states, s .pre .runs .runs .long)
+    let p = s .pre in
+    ((target-listed (onto (c .before .before .before .before .before)), (p .chained .few-states, p .chained .states-long)), ((omega (arith, p .chained .all-states, p .runs .runs .long), omega (arith, p .listed, p .chained .few-states)), p .stopped))
 
 same-length-4 : tie.Need-same-length-4
 same-length-4 c = search needs
@@ -113,7 +114,7 @@ returns-4 c =
     let z = c .before in
     let i4 = z .before .before in
     let w3 = i4 .before .before in
-    stepped-as refl (z .push .ensures) (visit-pushed (onto (c .before .before .before .before .before .before .before)) (sym (w3 .number-at3 .ensures) ∙ i4 .if4 .taken))
+    visit-met (onto (w3 .before .before)) (sym (w3 .number-at3 .ensures) ∙ i4 .if4 .taken) (z .meet .ensures)
 
 settle-requires-3 : tie.Need-settle-requires-3
 settle-requires-3 c κs = search needs
@@ -152,7 +153,7 @@ visit-spec =
     pass-requires
     same-length-3
     returns-3
-    push-requires
+    meet-requires
     same-length-4
     returns-4
     settle-requires-3

@@ -1,11 +1,11 @@
 -- `links::returns::count_returns` meets its contract: after i turns the return edges of the first i edges are counted. Assumes nothing.
-use mathlib.Core.Path.{_≡_, refl}
-use Prim.Native.Nat.{_+_, _-_, _≤_}
+use mathlib.Core.Path.{_≡_, refl, sym, _∙_}
+use Prim.Native.Nat.{_-_, _≤_}
 use native.Mathlib.Omega.{arith}
 use borrow.Author.Needs.{needs}
 use denote.Ref.{now}
 use Rattle.inplace.specs.Links.{net, returnsOf}
-use Rattle.links.specs.Returns.{returns-most, returns-more}
+use Rattle.links.specs.Returns.{returns-most, returns-more, returns-same}
 use Rattle.links.proofs.returns.count_returns.Statement.{statement}
 use Rattle.links.proofs.returns.count_returns.Tie as tie
 
@@ -19,17 +19,13 @@ loop-holds : tie.Need-loop-holds Inv-loop μ-loop
 unfolding returnsOf
 loop-holds c = (omega arith, refl)
 
-count-return-requires : tie.Need-count-return-requires Inv-loop μ-loop
-count-return-requires c κs = search needs
+has-return-requires : tie.Need-has-return-requires Inv-loop μ-loop
+has-return-requires c κs = search needs
 
 add-d : tie.Need-add-d Inv-loop μ-loop
 add-d c =
-    let a = c .before .before .before .args in
-    let l = c .before .before .loop in
-    let t = net (now (a .states)) (now (a .edges)) in
-    let e = returns-more (a .n) (a .k) (now (a .rules)) t (l .i) (l .inv .1) (c .count-return .ensures) in
-    let h = returns-most (a .n) (a .k) (now (a .rules)) t (l .i + 1) in
-    omega arith
+    let a = c .before .before .before .before .args in
+    omega (arith, returns-most (a .n) (a .k) (now (a .rules)) (net (now (a .states)) (now (a .edges))) (c .before .before .before .loop .i))
 
 add-i : tie.Need-add-i Inv-loop μ-loop
 add-i c = omega arith
@@ -39,11 +35,23 @@ loop-less c = omega arith
 
 loop-again : tie.Need-loop-again Inv-loop μ-loop
 loop-again c =
-    let a = c .before .before .before .args in
-    let l = c .before .before .loop in (
-      omega arith,
-      returns-more (a .n) (a .k) (now (a .rules)) (net (now (a .states)) (now (a .edges))) (l .i) (l .inv .1) (c .count-return .ensures),
-    )
+    let a = c .before .before .before .before .args in
+    let l = c .before .before .before .loop in
+    let r = c .before .has-return in
+    (omega arith, returns-more (a .n) (a .k) (now (a .rules)) (net (now (a .states)) (now (a .edges))) (l .i) (l .inv .1) (sym (r .ensures) ∙ c .if1 .taken))
+
+add-i-2 : tie.Need-add-i-2 Inv-loop μ-loop
+add-i-2 c = omega arith
+
+loop-less-2 : tie.Need-loop-less-2 Inv-loop μ-loop
+loop-less-2 c = omega arith
+
+loop-again-2 : tie.Need-loop-again-2 Inv-loop μ-loop
+loop-again-2 c =
+    let a = c .before .before .before .before .args in
+    let l = c .before .before .before .loop in
+    let r = c .before .has-return in
+    (omega arith, returns-same (a .n) (a .k) (now (a .rules)) (net (now (a .states)) (now (a .edges))) (l .i) (l .inv .1) (sym (r .ensures) ∙ c .if1 .left))
 
 returns : tie.Need-returns Inv-loop μ-loop
 returns c =
@@ -59,9 +67,12 @@ count-returns-spec =
     Inv-loop
     μ-loop
     loop-holds
-    count-return-requires
+    has-return-requires
     add-d
     add-i
     loop-less
     loop-again
+    add-i-2
+    loop-less-2
+    loop-again-2
     returns)

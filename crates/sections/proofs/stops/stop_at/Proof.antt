@@ -50,10 +50,10 @@ returns c =
     let st = now (a .states) in
     let ru = now (a .rules) in
     c .before .store .ensures
-    ∙ ap (λ (n : ℕ). stored 3 ru n 1 (pos (a .s))) (c .before .before .before .before .before .number-at2 .ensures)
+    ∙ ap (λ (n : ℕ). stored 3 ru n 1 (pos (a .s))) (c .before .before .before .before .number-at2 .ensures)
     ∙ stop-found (a .k) (wordOf 8 st (a .s) 0) (wordOf 8 st (a .s) 1) (λ n. stored 3 ru n 1 (pos (a .s))) ru (c .before .before .before .before .before .before .before .pre .2)
-    (first st (a .s) (c .before .before .before .before .before .before .number-at .result) (c .before .before .before .before .before .before .number-at .ensures) ∙ c .before .before .before .before .if1 .taken)
-    (rw (c .before .before .before .before .before .number-at2 .ensures) at (c .before .before .before .if2 .taken))
+    (first st (a .s) (c .before .before .before .before .before .before .number-at .result) (c .before .before .before .before .before .before .number-at .ensures) ∙ c .before .before .before .before .before .if1 .taken)
+    (rw (c .before .before .before .before .number-at2 .ensures) at (c .before .before .before .if2 .taken))
 
 returns-2 : tie.Need-returns-2
 returns-2 c =
@@ -61,15 +61,15 @@ returns-2 c =
     let st = now (a .states) in
     let ru = now (a .rules) in
     stop-outside (a .k) (wordOf 8 st (a .s) 0) (wordOf 8 st (a .s) 1) (λ n. stored 3 ru n 1 (pos (a .s))) ru
-    (rw (c .before .before .number-at2 .ensures) at (c .if2 .left))
+    (rw (c .before .number-at2 .ensures) at (c .if2 .left))
 
 returns-3 : tie.Need-returns-3
 returns-3 c =
-    let a = c .before .before .before .args in
+    let a = c .before .before .args in
     let st = now (a .states) in
     let ru = now (a .rules) in
     stop-other (a .k) (wordOf 8 st (a .s) 0) (wordOf 8 st (a .s) 1) (λ n. stored 3 ru n 1 (pos (a .s))) ru
-    (λ e. c .if1 .left (sym (first st (a .s) (c .before .before .number-at .result) (c .before .before .number-at .ensures)) ∙ e))
+    (λ e. c .if1 .left (sym (first st (a .s) (c .before .number-at .result) (c .before .number-at .ensures)) ∙ e))
 
 pub stop-at-spec : {M : Type 1} → statement M
 stop-at-spec =

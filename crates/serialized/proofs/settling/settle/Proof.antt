@@ -9,7 +9,7 @@ enum-known-sofar : tie.Need-enum-known-sofar
 enum-known-sofar c = search needs
 
 identify-tail-calls-requires : tie.Need-identify-tail-calls-requires
-identify-tail-calls-requires c κs = let p = rw (c .before .before .before .before .before .sofar .given .1) at (c .before .before .before .before .before .before .before .pre) in (p .1, p .2)
+identify-tail-calls-requires c κs = let p = rw (c .before .before .before .before .before .sofar .given .1) at (c .before .before .before .before .before .before .before .pre) in ((p .1, p .2), p .3)
 
 read-from-requires : tie.Need-read-from-requires
 read-from-requires c κs = let p = rw (c .before .before .before .before .before .before .before .before .sofar .given .1) at (c .before .before .before .before .before .before .before .before .before .before .pre) in p .0

@@ -1,0 +1,187 @@
+//! What a run counted, and how it is printed. Nothing in it depends on the time, so that a seed and a count print the same again.
+
+use crate::asked::Tally;
+use crate::gatehazel::{Refusal, TABLES};
+use crate::rooms::{KINDS, Room};
+use crate::told::{Answer, MOST_ROOM, Told};
+use std::collections::{BTreeMap, BTreeSet};
+
+/// A kind of intended difference: how often it was met, and the shortest list that showed it.
+#[derive(Default)]
+pub struct Met {
+    pub times: u64,
+    smallest: Option<Vec<i32>>,
+}
+
+impl Met {
+    fn again(&mut self, words: &[i32]) {
+        self.times += 1;
+        // of lists of one length, the one with the smaller words
+        let size = |list: &[i32]| (list.len(), list.iter().map(|word| u64::from(word.unsigned_abs())).sum::<u64>());
+        if self.smallest.as_ref().is_none_or(|least| words.len() <= least.len() && size(words) < size(least)) {
+            self.smallest = Some(words.to_vec());
+        }
+    }
+
+    fn shown(&self) -> String {
+        match &self.smallest {
+            None => String::from("not met"),
+            Some(words) => format!("{} times, smallest `{}`", self.times, spelled(words)),
+        }
+    }
+}
+
+#[derive(Default)]
+pub struct Summary {
+    pub lists: u64,
+    families: Vec<(&'static str, u64)>,
+    /// What the Rust says: accepted first, then by refusal number.
+    told: [u64; 15],
+    pairs: BTreeSet<(u32, u32)>,
+    decodes: u64,
+    words: u64,
+    rooms: [u64; 8],
+    short: [[u64; 9]; 2],
+    answers: [u64; 15],
+    no_room: BTreeMap<(u32, bool), u64>,
+    /// Accepted lists with return edges, a tail call, a precedence decision, a set.
+    with: [u64; 4],
+    pub apart: u64,
+    /// With words behind: accepted lists, refused ones.
+    pub behind: [u64; 2],
+    pub cut: u64,
+    pub asked: Tally,
+    pub ruled: u64,
+    pub damages: u64,
+    short_of_room: Met,
+    above_most: Met,
+    accepted_above_most: Met,
+    not_asked: Met,
+    unused_sets: Met,
+    derived: Met,
+    pub mismatches: u64,
+}
+
+/// The words on a line; of a long list its beginning and its length.
+pub fn spelled(words: &[i32]) -> String {
+    let shown: Vec<String> = words.iter().take(60).map(i32::to_string).collect();
+    let rest = if words.len() > 60 { format!(" .. ({} words)", words.len()) } else { String::new() };
+    shown.join(" ") + &rest
+}
+
+fn listed<'a, N: std::fmt::Display + 'a>(counts: impl Iterator<Item = (N, u64)>) -> String {
+    counts.filter(|(_, count)| *count > 0).map(|(name, count)| format!("{name}: {count}")).collect::<Vec<_>>().join(", ")
+}
+
+impl Summary {
+    /// A list that the Rust was asked about.
+    pub fn list(&mut self, family: &'static str, told: &Told) {
+        self.lists += 1;
+        match self.families.iter_mut().find(|(name, _)| *name == family) {
+            Some((_, count)) => *count += 1,
+            None => self.families.push((family, 1)),
+        }
+        if !told.asked {
+            return self.not_asked.again(&told.words);
+        }
+        match &told.answer {
+            Err(refusal) => {
+                self.told[refusal.number as usize] += 1;
+                self.pairs.insert((refusal.number, refusal.field));
+            }
+            Ok(counts) => {
+                self.told[0] += 1;
+                let marked = told.records[1].chunks(8).any(|edge| edge[6] == 2);
+                let decided = told.records[0].chunks(8).any(|state| state[4] & 4 != 0);
+                for (count, has) in self.with.iter_mut().zip([counts[4] > 0, marked, decided, counts[6] > 0]) {
+                    *count += u64::from(has);
+                }
+                let named: BTreeSet<i32> = told.records[1].chunks(8).filter(|edge| edge[0] == 7 || edge[0] == 8).map(|edge| edge[3]).collect();
+                if named.len() < told.kept.len() {
+                    self.unused_sets.again(&told.words);
+                }
+                if counts[4] > 0 {
+                    self.derived.again(&told.words);
+                }
+            }
+        }
+    }
+
+    /// A decode that was compared.
+    pub fn decode(&mut self, told: &Told, room: Room, lengths: &[usize; 9], answer: &Answer) {
+        self.decodes += 1;
+        self.words += lengths.iter().sum::<usize>() as u64;
+        let capped = room == Room::Full && (0..TABLES.len()).any(|table| lengths[table] < told.room[table] * TABLES[table].1);
+        self.rooms[if capped { 7 } else { room.kind() }] += 1;
+        match room {
+            Room::WordShort(table) => self.short[0][table] += 1,
+            Room::RecordShort(table) => self.short[1][table] += 1,
+            _ => {}
+        }
+        let Err(refusal) = answer else {
+            self.answers[0] += 1;
+            return;
+        };
+        self.answers[refusal.number as usize] += 1;
+        if refusal.number == 12 {
+            self.twelve(told, *refusal);
+        }
+    }
+
+    fn twelve(&mut self, told: &Told, refusal: Refusal) {
+        // return edges are tested before the word at that place is read, all else after
+        let derived = told.tests.iter().any(|test| test.refusal == refusal && test.read == refusal.place);
+        *self.no_room.entry((refusal.field, derived)).or_default() += 1;
+        match (refusal.value > MOST_ROOM as i64, told.answer.is_ok()) {
+            _ if !told.asked => {}
+            (false, true) => self.short_of_room.again(&told.words),
+            (false, false) => {}
+            (true, accepted) => {
+                self.above_most.again(&told.words);
+                if accepted {
+                    self.accepted_above_most.again(&told.words);
+                }
+            }
+        }
+    }
+
+    pub fn print(&self) {
+        println!("lists compared: {}, by family:", self.lists);
+        for row in self.families.chunks(8) {
+            println!("  {}", listed(row.iter().copied()));
+        }
+        let numbers = |counts: &[u64; 15]| listed(counts.iter().copied().enumerate().skip(1));
+        println!("the Rust accepted {}, refused {} ({})", self.told[0], self.told[1..].iter().sum::<u64>(), numbers(&self.told));
+        let kinds = ["return edges", "a tail call", "a precedence decision", "a set"];
+        println!("  accepted lists with {}", listed(kinds.into_iter().zip(self.with)));
+        println!("  pairs of refusal number and field that it gave: {} of the 66 that there are", self.pairs.len());
+        println!("decodes compared: {} ({} words of lent tables)", self.decodes, self.words);
+        println!("  by answer: accepted {}, refused by number: {}", self.answers[0], numbers(&self.answers));
+        println!("  by room: {}", listed(KINDS.into_iter().zip(self.rooms)));
+        for (kind, counts) in KINDS[1..3].iter().zip(self.short) {
+            println!("  {kind}, by table: {}", listed(TABLES.iter().map(|table| table.0).zip(counts)));
+        }
+        let name = |field: u32, derived: bool| if derived { format!("{field} for return edges") } else { field.to_string() };
+        println!("  12 by field: {}", listed(self.no_room.iter().map(|(&(field, derived), &count)| (name(field, derived), count))));
+        println!("  into slices of one block, with an answer of 0 to 20 elements: {}", self.apart);
+        let [accepted, refused] = self.behind;
+        println!("demand 3: accepted lists with words behind {accepted}, cut short {}; refused lists with words behind {refused}", self.cut);
+        let asked = &self.asked;
+        println!("questions compared: matches {}, n-th edge {}, set's part {}, lookup {}", asked.matches, asked.edges, asked.parts, asked.lookups);
+        println!("  lists asked at every border: {}; at some, for their size: {}", asked.all_borders, asked.some_borders);
+        println!("questions on tables that no decode left, expected by document 01's rule: {}", self.ruled);
+        self.print_intended();
+        println!("self-test: {} damages, all caught", self.damages);
+        println!("mismatches: {}", self.mismatches);
+    }
+
+    fn print_intended(&self) {
+        println!("intended differences (lists or decodes, and the shortest list met):");
+        println!("  accepted by the Rust, 12 for want of room: {}", self.short_of_room.shown());
+        println!("  more than 65,536 records, 12 in any room: {}", self.above_most.shown());
+        println!("    of them accepted by the Rust: {}", self.accepted_above_most.shown());
+        println!("  not asked of the Rust, for its memory: {}", self.not_asked.shown());
+        println!("  sets that no edge names, dropped by the Rust: {}", self.unused_sets.shown());
+        println!("  return edges, not marked by the Rust: {}", self.derived.shown());
+    }
+}

@@ -1,0 +1,2 @@
+-- How a table is held to stored words.
+pub mod Compare

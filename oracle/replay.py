@@ -1,0 +1,139 @@
+#!/usr/bin/env python3
+"""Writes crates/replay/data/answers.words: word lists, the lengths of the slices to lend, and the oracle's answers, put as
+document 01 puts them (told.py). The program `replay` decodes each list by the library and holds the answer and every word of
+all nine tables to what is stored; it needs no Rust.
+
+    python3 oracle/replay.py            writes the file, and says what is in it
+    python3 oracle/replay.py --print N  prints the N-th stored case as text
+
+The lists are those of lists.py: every hand-picked one, random ones from a fixed seed, and the four sample dialects, whole. Each is
+lent slices that are exactly full, odd, or larger, by turns; and some once more with one record too few in a table, where the answer
+12 is document 01's, since the Rust knows no rooms. The file holds little-endian 32-bit words; a case is
+    nine lengths · number of words, words · 0, eleven counts, and for each table the number of its records' words, and these
+                                          or number, field, place, value
+and stands whole in a block of 65,536 words, which words of -1 fill up.
+"""
+
+import itertools
+import os
+import random
+import struct
+import sys
+
+import lists
+import told
+
+FILE = os.path.join(lists.HERE, "..", "crates", "replay", "data", "answers.words")
+SAMPLES = ("xpathlexer", "autolevlexer", "latexlexer", "unicode")
+RANDOM = 900
+SEED = 20260904
+BLOCK = 65536
+
+# The program lends no more words than this of each table.
+MOST = dict(zip(told.TABLES, (16384, 16384, 16384, 2048, 2048, 1024, 1024, 1024, 8192)))
+
+
+def pairs():
+    """(family, words): hand-picked, random, and real."""
+    yield from lists.hand_picked()
+    rng = random.Random(SEED)
+    yield from itertools.islice(lists.random_lists(rng), RANDOM)
+    yield from lists.real(rng)
+    for name in SAMPLES:
+        yield "real dialect", lists.sample(name)
+
+
+def lengths(one, turn):
+    """The slices' lengths: exactly full, odd, or larger, by turns."""
+    spare = (0, 1, 11)[turn % 3]
+    return {table: min(MOST[table], one.room[table] * width + spare * (turn % 2 + 1)) for table, width in told.TABLES.items()}
+
+
+def short_lengths(one, turn):
+    """The same with one record too few in one table; none where every table is empty."""
+    full = [table for table in told.TABLES if one.room[table] > 0]
+    if not full:
+        return None
+    lent = lengths(one, 0)
+    table = full[turn % len(full)]
+    lent[table] -= told.TABLES[table]
+    return lent
+
+
+def answer(one, lent):
+    """The stored answer: the refusal, or the counts and the tables."""
+    short = one.short_of_room(lent)
+    if short or one.refused:
+        return list(short or one.refused)
+    words = [0, *one.counts]
+    for table in told.TABLES:
+        records = [word for record in one.tables[table] for word in record]
+        words += [len(records), *records]
+    return words
+
+
+def case(one, lent):
+    return [*lent.values(), len(one.words), *one.words, *answer(one, lent)]
+
+
+def cases():
+    for turn, one in enumerate(told.consult(list(pairs()), most=20000)):
+        yield case(one, lengths(one, turn))
+        lent = short_lengths(one, turn)
+        if lent and turn % 3 == 0 and len(one.words) < 600:
+            yield case(one, lent)
+
+
+def blocks(all_cases):
+    """The cases, packed into blocks."""
+    packed = []
+    for one in all_cases:
+        if len(packed) % BLOCK + len(one) > BLOCK:
+            packed += [-1] * (-len(packed) % BLOCK)
+        packed += one
+    return packed
+
+
+def split(words):
+    """The stored words, case by case."""
+    at = 0
+    while at < len(words):
+        if words[at] == -1:
+            at += 1
+            continue
+        end = at + 10 + words[at + 9]
+        if words[end]:
+            behind = end + 4
+        else:
+            behind = end + 12
+            for _ in told.TABLES:
+                behind += 1 + words[behind]
+        yield words[at:at + 9], words[at + 10:end], words[end:behind]
+        at = behind
+
+
+def print_case(number):
+    with open(FILE, "rb") as file:
+        data = file.read()
+    stored = struct.unpack("<%di" % (len(data) // 4), data)
+    lent, words, said = next(itertools.islice(split(stored), number, None))
+    print("lengths", *lent)
+    print("words", *words)
+    print("answer", *said)
+
+
+def main():
+    if len(sys.argv) == 3 and sys.argv[1] == "--print":
+        return print_case(int(sys.argv[2]))
+    if len(sys.argv) > 1:
+        return print(__doc__)
+    all_cases = list(cases())
+    words = blocks(all_cases)
+    os.makedirs(os.path.dirname(FILE), exist_ok=True)
+    with open(FILE, "wb") as file:
+        file.write(struct.pack("<%di" % len(words), *words))
+    print("cases", len(all_cases), "words", len(words), "bytes", 4 * len(words))
+
+
+if __name__ == "__main__":
+    main()
