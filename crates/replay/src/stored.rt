@@ -1,10 +1,14 @@
 // The stored list, read from a place on. A place outside it is its end, and what stands there is 0 or nothing.
 
+ghost use mathlib.Core.Path.{_≡_};
 ghost use Prim.Native.Nat.{_<_, _^_};
+ghost use Rattle.replay.specs.Compare.{wordAt};
 use words::Sign;
 
-// The word at a place.
-pub fn word(list: &[i32], at: usize) -> i32 {
+// The word at a place; 0 where there is none.
+pub fn word(list: &[i32], at: usize) -> i32
+    ensures { λ r. ⌜ r ≡ wordAt (now (list .entry)) at ⌝ }
+{
     if at < list.len() { list[at] } else { 0 }
 }
 

@@ -1,7 +1,7 @@
 -- `compare::holds_words` meets its contract: what is left to compare decides, from the last word down. Assumes nothing.
 use mathlib.Core.Path.{_≡_, refl, sym, ap, ap₂, _∙_}
 use mathlib.Core.List.{List}
-use mathlib.Core.Bool.{true, false, _&&_}
+use mathlib.Core.Bool.{true, _&&_}
 use Prim.Native.Nat.{ℕ, zero, suc, _-_, _≤_, _<_}
 use native.Mathlib.Omega.{arith}
 use denote.Ref.{now}
@@ -33,19 +33,19 @@ none t e = refl
 
 -- what the test of two words found
 tested : (c : tie.After-equal Inv-loop μ-loop) → let a = c .before .before .before .before .before .before .args in let n = c .before .before .before .before .loop .left in
-    same (wordAt (now (a .table)) (n - 1)) (wordAt (now (a .stored)) (n - 1)) ≡ c .equal .result
+    same (wordAt (now (a .table)) (n - 1)) (wordAt (now (a .expected)) (n - 1)) ≡ c .equal .result
 tested c = sym (c .equal .ensures ∙ ap₂ same (back32 (c .before .before .word .result) (c .before .before .word .ok) ∙ c .before .before .word .ensures) (back32 (c .before .word2 .result) (c .before .word2 .ok) ∙ c .before .word2 .ensures))
 
 -- all words, once the last of those that are left was looked at
 stepped : (c : tie.After-equal Inv-loop μ-loop) → let a = c .before .before .before .before .before .before .args in let n = c .before .before .before .before .loop .left in
-    agree (length (now (a .table))) (now (a .table)) (now (a .stored)) ≡ (c .equal .result && agree (n - 1) (now (a .table)) (now (a .stored)))
+    agree (length (now (a .table))) (now (a .table)) (now (a .expected)) ≡ (c .equal .result && agree (n - 1) (now (a .table)) (now (a .expected)))
 stepped c =
     let a = c .before .before .before .before .before .before .args in
     let l = c .before .before .before .before .loop in
-    l .inv .1 ∙ last (l .left) (now (a .table)) (now (a .stored)) (omega arith) ∙ ap (λ b. b && agree (l .left - 1) (now (a .table)) (now (a .stored))) (tested c)
+    l .inv .1 ∙ last (l .left) (now (a .table)) (now (a .expected)) (omega arith) ∙ ap (λ b. b && agree (l .left - 1) (now (a .table)) (now (a .expected))) (tested c)
 
 returns : tie.Need-returns Inv-loop μ-loop
-returns c = ap (λ b. b && agree (length (now (c .before .args .table))) (now (c .before .args .table)) (now (c .before .args .stored))) (sym (lt-leb (length (now (c .before .args .stored))) (length (now (c .before .args .table))) (c .if1 .taken)))
+returns c = ap (λ b. b && agree (length (now (c .before .args .table))) (now (c .before .args .table)) (now (c .before .args .expected))) (sym (lt-leb (length (now (c .before .args .expected))) (length (now (c .before .args .table))) (c .if1 .taken)))
 
 loop-holds : tie.Need-loop-holds Inv-loop μ-loop
 loop-holds c = (omega arith, refl)
@@ -65,7 +65,7 @@ equal-requires c κs = search needs
 returns-2 : tie.Need-returns-2 Inv-loop μ-loop
 returns-2 c =
     let a = c .before .before .before .before .before .before .before .args in
-    sym (ap₂ _&&_ (le-leb (length (now (a .stored))) (length (now (a .table))) (omega arith)) (stepped (c .before) ∙ ap (λ b. b && agree (c .before .before .before .before .before .loop .left - 1) (now (a .table)) (now (a .stored))) (not-true (c .before .equal .result) (c .if2 .taken))))
+    sym (ap₂ _&&_ (le-leb (length (now (a .expected))) (length (now (a .table))) (omega arith)) (stepped (c .before) ∙ ap (λ b. b && agree (c .before .before .before .before .before .loop .left - 1) (now (a .table)) (now (a .expected))) (not-true (c .before .equal .result) (c .if2 .taken))))
 
 loop-less : tie.Need-loop-less Inv-loop μ-loop
 loop-less c = search needs
@@ -73,13 +73,13 @@ loop-less c = search needs
 loop-again : tie.Need-loop-again Inv-loop μ-loop
 loop-again c =
     let a = c .before .before .before .before .before .before .before .args in
-    (omega arith, stepped (c .before) ∙ ap (λ b. b && agree (c .before .before .before .before .before .loop .left - 1) (now (a .table)) (now (a .stored))) (not-false (c .before .equal .result) (c .if2 .left)))
+    (omega arith, stepped (c .before) ∙ ap (λ b. b && agree (c .before .before .before .before .before .loop .left - 1) (now (a .table)) (now (a .expected))) (not-false (c .before .equal .result) (c .if2 .left)))
 
 returns-3 : tie.Need-returns-3 Inv-loop μ-loop
 returns-3 c =
     let a = c .before .before .before .args in
     let q : c .before .loop .left ≡ 0 = omega arith in
-    sym (ap₂ _&&_ (le-leb (length (now (a .stored))) (length (now (a .table))) (omega arith)) (c .before .loop .inv .1 ∙ ap (λ (k : ℕ). agree k (now (a .table)) (now (a .stored))) q ∙ sym (none (now (a .table)) (now (a .stored)))))
+    sym (ap₂ _&&_ (le-leb (length (now (a .expected))) (length (now (a .table))) (omega arith)) (c .before .loop .inv .1 ∙ ap (λ (k : ℕ). agree k (now (a .table)) (now (a .expected))) q ∙ sym (none (now (a .table)) (now (a .expected)))))
 
 pub holds-words-spec : {M : Type 1} → statement M
 holds-words-spec =

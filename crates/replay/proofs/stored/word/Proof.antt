@@ -1,11 +1,11 @@
--- `compare::word` meets its contract. Assumes nothing.
+-- `stored::word` meets its contract. Assumes nothing.
 use mathlib.Core.Path.{sym}
 use denote.Ref.{now}
 use lib.IntN.{pos}
 use lib.ListN.{List·getD-eq-default}
 use borrow.Author.Needs.{needs}
-use Rattle.replay.proofs.compare.word.Statement.{statement}
-use Rattle.replay.proofs.compare.word.Tie as tie
+use Rattle.replay.proofs.stored.word.Statement.{statement}
+use Rattle.replay.proofs.stored.word.Tie as tie
 
 mul-result : tie.Need-mul-result
 mul-result c = search needs
