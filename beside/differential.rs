@@ -5,6 +5,7 @@ mod gatehazel;
 mod hold;
 mod large;
 mod lists;
+mod orders;
 mod rooms;
 mod ruled;
 mod run;
@@ -16,10 +17,11 @@ mod summary;
 mod told;
 mod walk;
 
-use lists::{dialects, full, hand_built, whole};
+use lists::{dialects, full, hand_built, over_sets, whole};
+use orders::{ARRANGED, Interval, KINDS};
 use rooms::{Room, USUAL};
 use run::{Care, PLAIN, Run};
-use seeded::{SHAPES, damaged, loose, network, some_words};
+use seeded::{SHAPES, damaged, large_set, loose, network, some_words};
 use short::{SMALL, short};
 use std::process::ExitCode;
 use std::time::{Duration, Instant};
@@ -105,6 +107,36 @@ fn every_short_list(run: &mut Run) {
     }
 }
 
+/// Sets of all sizes up to some thousand intervals, in every order, flagged and not; all of them in one list; and seeded ones.
+fn large_sets(run: &mut Run, bounded: bool) {
+    let care = Care { rooms: 4, questions: 2_000, again: 1, most: USUAL };
+    let sets = |n: usize| -> Vec<Vec<Interval>> {
+        let arranged = |kind: orders::Kind| ARRANGED.map(|(_, arrange)| { let mut list = kind(n); arrange(&mut list); list });
+        KINDS.into_iter().flat_map(|(_, kind)| arranged(kind)).collect()
+    };
+    let many: &[usize] = if bounded { &[600, 2_400] } else { &[600, 1_200, 2_400, 4_800] };
+    for n in (1..=12).chain([16, 17, 63, 64, 65, 200]) {
+        for (at, intervals) in sets(n).into_iter().enumerate() {
+            run.list("sets in every order", &over_sets(&[(0, intervals.clone())]), care);
+            run.list("sets in every order", &over_sets(&[(1 + at as i32, intervals)]), care);
+        }
+    }
+    for &n in many {
+        eprintln!("  {n} intervals");
+        for (at, intervals) in sets(n).into_iter().enumerate() {
+            run.list("sets in every order", &over_sets(&[((at % 3) as i32, intervals)]), Care { rooms: 2, ..care });
+        }
+    }
+    for n in [5, 40] {
+        let all: Vec<_> = sets(n).into_iter().enumerate().map(|(at, intervals)| ((at % 2) as i32, intervals)).collect();
+        run.list("sets in every order", &over_sets(&all), care);
+    }
+    for _ in 0..if bounded { 300 } else { 3_000 } {
+        let list = over_sets(&[large_set(&mut run.rng), large_set(&mut run.rng)]);
+        run.list("seeded, large sets", &list, care);
+    }
+}
+
 /// The real dialects: whole, with words behind, damaged, and cut at every length, or at some 300 of them if the run is bounded.
 fn real(run: &mut Run, bounded: bool) {
     let whole = Care { most: MOST_ROOM, again: 3, ..ALL };
@@ -182,6 +214,8 @@ fn compare(run: &mut Run, options: &Options) {
     every_short_list(run);
     run.begin("by hand");
     by_hand(run);
+    run.begin("sets in every order");
+    large_sets(run, options.bounded);
     run.begin("real dialects");
     real(run, options.bounded);
     run.begin("about 65,536 records");

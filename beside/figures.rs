@@ -9,6 +9,9 @@ mod gatehazel;
 mod lists;
 #[path = "figures/machine.rs"]
 mod machine;
+// The comparison takes more of it.
+#[allow(dead_code)]
+mod orders;
 #[path = "figures/plot.rs"]
 mod plot;
 #[path = "figures/timing.rs"]
@@ -39,7 +42,7 @@ dialect        words  tables  the Rust  with drop     ours  ratio  clear+copy   
 /// What the columns of the growth lines mean.
 const GROWING: &str = "
 Growth, in microseconds, the least of the rounds; tables as above. `grows` is the time over that of half the size: 2 is linear, 4 is quadratic.
-A dash: left out, since a run would take more than two seconds.
+`ns each` is ours over the size. A dash: left out, since a run would take more than two seconds.
 ";
 
 /// A way to grow: what is counted, the sizes' first and last power of two, and the list of a size.
@@ -50,7 +53,7 @@ struct Growth {
     list: fn(usize) -> Vec<i32>,
 }
 
-const GROWTHS: [Growth; 7] = [
+const GROWTHS: [Growth; 10] = [
     Growth { title: "a chain of states", counted: "states", sizes: 8..=16, list: lists::chain },
     Growth { title: "rule edges onto one chain", counted: "rule edges", sizes: 8..=14, list: lists::rule_edges },
     Growth { title: "one state's edges", counted: "edges", sizes: 8..=16, list: lists::edges_of_one },
@@ -58,6 +61,9 @@ const GROWTHS: [Growth; 7] = [
     Growth { title: "one set, in order", counted: "intervals", sizes: 6..=16, list: lists::set_in_order },
     Growth { title: "one set, reversed", counted: "intervals", sizes: 6..=16, list: lists::set_reversed },
     Growth { title: "one set, shuffled", counted: "intervals", sizes: 6..=16, list: lists::set_shuffled },
+    Growth { title: "one set, all equal", counted: "intervals", sizes: 6..=16, list: lists::set_of_equal },
+    Growth { title: "one set, all overlapping", counted: "intervals", sizes: 6..=16, list: lists::set_overlapping },
+    Growth { title: "one set, nested", counted: "intervals", sizes: 6..=16, list: lists::set_nested },
 ];
 
 /// A size's least times in nanoseconds; none where the decoder was left out.
@@ -146,7 +152,7 @@ fn grow_once(growth: &Growth, size: usize, points: &mut Vec<Point>, out: &mut St
     let m = timing::measure(&mut subject, &OF_GROWTH, with_rust, with_ours);
     let point = Point { size, rust: with_rust.then(|| m.built.least()), ours: with_ours.then(|| m.ours.least()) };
     let before = points.last();
-    let each = point.ours.map_or("-".into(), |ours| format!("{:.1}", ours / subject.records() as f64));
+    let each = point.ours.map_or("-".into(), |ours| format!("{:.1}", ours / size as f64));
     let ratio = point.rust.zip(point.ours).map_or("-".into(), |(rust, ours)| format!("{:.2}", rust / ours));
     let ours = grown(point.ours, before.and_then(|p| p.ours));
     let rust = grown(point.rust, before.and_then(|p| p.rust));
@@ -159,7 +165,7 @@ fn grow(growth: &Growth, out: &mut String) -> Curve {
     let _ = writeln!(
         out,
         "{:>10}{:>10}{:>12}{:>7}{:>11}{:>12}{:>7}{:>9}{:>12}",
-        growth.counted, "records", "ours", "grows", "ns/record", "the Rust", "grows", "ratio", "clear+copy"
+        growth.counted, "records", "ours", "grows", "ns each", "the Rust", "grows", "ratio", "clear+copy"
     );
     let mut points = Vec::new();
     for power in growth.sizes.clone() {

@@ -116,7 +116,7 @@ pub fn whole() -> Vec<i32> {
 }
 
 /// Sets, each used by an edge.
-fn over_sets(sets: &[Set]) -> Vec<i32> {
+pub fn over_sets(sets: &[Set]) -> Vec<i32> {
     let edges: Vec<[i32; 6]> = (0..sets.len() as i32).map(|number| edge(0, 0, 7 + number % 2, number)).collect();
     Net::of(&[(1, 0)]).sets(sets).edges(&edges).words()
 }

@@ -100,6 +100,20 @@ pub fn some_set(rng: &mut Rng) -> Set {
     (rng.pick(&[0, 0, 0, 1, 5, -1]), (0..count).map(|_| (end(rng), end(rng))).collect())
 }
 
+/// A set of up to some hundred intervals, short or long, of which few or many meet; of some sets most starts rise.
+pub fn large_set(rng: &mut Rng) -> Set {
+    let most = rng.pick(&[20, 80, 300]);
+    let (high, long, rising) = (rng.pick(&[200, 4_000, 1_000_000]), rng.pick(&[0, 3, 30, 400]), rng.pick(&[0, 50, 95, 100]));
+    let mut intervals = Vec::new();
+    let mut start = 0;
+    for _ in 0..=rng.below(most) {
+        start = if rng.percent(rising) { start + rng.within(0, 9) } else { rng.within(-high, high) };
+        let stop = start + rng.within(0, long);
+        intervals.push(if rng.percent(10) { (stop, start) } else { (start, stop) });
+    }
+    (rng.pick(&[0, 1]), intervals)
+}
+
 fn some_state(rng: &mut Rng, kind: i32, rules: usize, count: usize) -> Vec<i32> {
     let rule = if rules == 0 || rng.percent(6) { rng.pick(&[-1, -9, rules as i32]) } else { rng.below(rules) as i32 };
     match kind {

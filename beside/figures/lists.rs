@@ -1,5 +1,7 @@
 //! Word lists of any size, for the growth figures: each grows in one way alone.
 
+use crate::orders::{self, Interval};
+
 const EPSILON: i32 = 1;
 const RULE: i32 = 3;
 const ATOM: i32 = 5;
@@ -14,7 +16,7 @@ const STOP: i32 = 7;
 struct Parts {
     states: Vec<[i32; 2]>,
     rule_starts: Vec<usize>,
-    sets: Vec<Vec<[i32; 2]>>,
+    sets: Vec<Vec<Interval>>,
     edges: Vec<[i32; 6]>,
 }
 
@@ -38,7 +40,7 @@ impl Parts {
         words.extend([1, 0, self.sets.len() as i32]);
         for set in &self.sets {
             words.extend([set.len() as i32, 0]);
-            words.extend(set.iter().flatten());
+            words.extend(set.iter().flat_map(|&(start, stop)| [start, stop]));
         }
         words.push(self.edges.len() as i32);
         words.extend(self.edges.iter().flatten());
@@ -106,7 +108,7 @@ pub fn edges_of_many(n: usize) -> Vec<i32> {
 }
 
 /// One set of these intervals, on one edge.
-fn one_set(intervals: Vec<[i32; 2]>) -> Vec<i32> {
+fn one_set(intervals: Vec<Interval>) -> Vec<i32> {
     let mut parts = Parts { rule_starts: vec![0], sets: vec![intervals], ..Parts::default() };
     let start = parts.state(START, 0);
     let stop = parts.state(STOP, 0);
@@ -114,28 +116,31 @@ fn one_set(intervals: Vec<[i32; 2]>) -> Vec<i32> {
     parts.words()
 }
 
-/// n intervals that neither meet nor touch, in rising order.
-fn apart(n: usize) -> Vec<[i32; 2]> {
-    (0..n as i32).map(|i| [4 * i, 4 * i + 1]).collect()
-}
-
 pub fn set_in_order(n: usize) -> Vec<i32> {
-    one_set(apart(n))
+    one_set(orders::apart(n))
 }
 
 pub fn set_reversed(n: usize) -> Vec<i32> {
-    one_set(apart(n).into_iter().rev().collect())
+    one_set(orders::apart(n).into_iter().rev().collect())
 }
 
-/// The order is the same in every run: the generator starts from a fixed number.
 pub fn set_shuffled(n: usize) -> Vec<i32> {
-    let mut intervals = apart(n);
-    let mut state = 0x9e37_79b9_7f4a_7c15u64;
-    for i in (1..n).rev() {
-        state ^= state << 13;
-        state ^= state >> 7;
-        state ^= state << 17;
-        intervals.swap(i, (state % (i as u64 + 1)) as usize);
-    }
+    let mut intervals = orders::apart(n);
+    orders::shuffle(&mut intervals);
     one_set(intervals)
+}
+
+pub fn set_of_equal(n: usize) -> Vec<i32> {
+    one_set(orders::equal(n))
+}
+
+pub fn set_overlapping(n: usize) -> Vec<i32> {
+    let mut intervals = orders::overlapping(n);
+    orders::shuffle(&mut intervals);
+    one_set(intervals)
+}
+
+/// The innermost comes first, so that every start is below the one before it.
+pub fn set_nested(n: usize) -> Vec<i32> {
+    one_set(orders::nested(n).into_iter().rev().collect())
 }

@@ -1,4 +1,5 @@
 -- Lemmas of the functions' proofs.
-mod Tested
-mod Merging
+mod Members
+mod Sweep
+mod Normal
 mod Halving

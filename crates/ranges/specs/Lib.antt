@@ -1,4 +1,4 @@
--- What `add_range` leaves, and what its callers need of that.
-pub mod Added
+-- What a set keeps in its part of the range table, how `normalize` comes to that, and what its callers need of it.
+pub mod Laid
 pub mod Words
-pub mod Adding
+pub mod Joining

@@ -1,62 +1,46 @@
 // Sets of 32-bit numbers as ranges in a lent table: document 01, "Sets". A range is two words, start and stop.
-// From the Rust's atn/mod.rs: `IntervalSet`'s `add_range` and `contains`.
+// From the Rust's atn/mod.rs: `IntervalSet`'s `normalize` and `contains`. The Rust normalizes a set after each interval; here that is
+// done once, when all of them are there.
 
-mod order;
-mod records;
+mod joining;
 
 ghost use mathlib.Core.Path.{_≡_};
-ghost use Prim.Native.Nat.{_+_, _*_, _≤_};
+ghost use Prim.Native.Nat.{_*_, _≤_};
 ghost use lib.ListN.{length};
 ghost use Rattle.format.specs.Questions.{lookup};
-ghost use Rattle.ranges.specs.Added.{addedTo, addedCount, joined, over};
+ghost use Rattle.inplace.specs.Sets.{keptIn};
+ghost use Rattle.ranges.specs.Laid.{keptOf};
+ghost use Rattle.ranges.specs.Joining.{Merges};
+use ordering::order;
 
-// One range more in the set whose `kept` ranges stand at the front of `part`, which is the rest of the range table from the
-// set's first range on. Answers how many ranges the set then has. Records that are no longer used are cleared, and all that
-// stands behind them stays.
-pub fn add_range(part: &mut [i32], kept: usize, start: i32, stop: i32) -> usize
-    requires { ⌜ 2 * kept + 2 ≤ length (now part) ⌝ }
-    ensures { λ r. ⌜ r ≡ addedCount (now (part .entry)) kept start stop ⌝ }
-    ensures { λ r. ⌜ now (part .exit) ≡ addedTo (now (part .entry)) kept start stop ⌝ }
+// The ranges that a set keeps of the n intervals at the front of `part`. Answers how many. Where no start lies below the one before it,
+// as ANTLR writes them, one pass is all; else what it leaves is put in order, and a second one does the rest.
+fn merge(part: &mut [i32], n: usize) -> usize
+    requires { ⌜ 2 * n ≤ length (now part) ⌝ }
+    ensures { λ r. ⌜ Merges (now (part .entry)) (now (part .exit)) n r ⌝ }
 {
-    let low = order::lower(start, stop);
-    let high = order::upper(start, stop);
-    let count = merge(part, kept, low, high);
-    let from = 2 * count;
-    let to = 2 * kept + 2;
-    tables::clear(&mut part[from..to]);
-    count
+    let first = joining::join(part, n);
+    let left = first.count;
+    if first.rising {
+        return left;
+    }
+    ordering::sort(part, left);
+    let second = joining::join(part, left);
+    second.count
 }
 
-// One forward pass, which carries the range that is still to be stored. Every turn reads a record and stores at most one, so
-// no store overtakes what is still to be read, and nothing is shifted.
-fn merge(part: &mut [i32], kept: usize, start: i32, stop: i32) -> usize
-    requires { ⌜ 2 * kept + 2 ≤ length (now part) ⌝ }
-    ensures { λ r. ⌜ r ≡ length (joined (now (part .entry)) kept start stop) ⌝ }
-    ensures { λ r. ⌜ now (part .exit) ≡ over (joined (now (part .entry)) kept start stop) (now (part .entry)) ⌝ }
+// A set's n intervals stand at the front of `part`, which is the rest of the range table from the set's first range on: they become
+// the ranges that the set keeps. Answers how many. Records that are no longer used are cleared, and all that stands behind them stays.
+pub fn normalize(part: &mut [i32], n: usize) -> usize
+    requires { ⌜ 2 * n ≤ length (now part) ⌝ }
+    ensures { λ r. ⌜ r ≡ length (keptOf (now (part .entry)) n) ⌝ }
+    ensures { λ r. ⌜ now (part .exit) ≡ keptIn n (keptOf (now (part .entry)) n) (now (part .entry)) ⌝ }
 {
-    let mut low = start;
-    let mut high = stop;
-    let mut out: usize = 0;
-    let mut i: usize = 0;
-    while i < kept {
-        let a = part[2 * i];
-        let b = part[2 * i + 1];
-        i += 1;
-        if order::apart(b, low) {
-            records::put(part, out, a, b);
-            out += 1;
-        } else if order::apart(high, a) {
-            records::put(part, out, low, high);
-            out += 1;
-            low = a;
-            high = b;
-        } else {
-            low = order::lower(low, a);
-            high = order::upper(high, b);
-        }
-    }
-    records::put(part, out, low, high);
-    out + 1
+    let count = merge(part, n);
+    let from = 2 * count;
+    let to = 2 * n;
+    tables::clear(&mut part[from..to]);
+    count
 }
 
 // "Lookup of v": whether a range holds the value, by halving. An odd last word is not read.

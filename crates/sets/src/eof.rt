@@ -17,7 +17,7 @@ pub enum Flag {
 }
 
 // How many ranges a flag adds.
-pub fn bit(flagged: bool) -> usize
+fn bit(flagged: bool) -> usize
     ensures { λ r. ⌜ r ≡ spec.bit flagged ⌝ }
 {
     if flagged { 1 } else { 0 }

@@ -1,4 +1,5 @@
-// Document 01, "Each set merges inside the part of the range table that begins at its first range": `part` is that part.
+// Document 01, "Each set merges inside the part of the range table that begins at its first range": `part` is that part. A set's
+// intervals are gathered there as they are read, and merged once.
 // From the Rust's atn/serialized.rs: the intervals of `deserialize_sets`.
 
 ghost use mathlib.Core.Path.{_≡_};
@@ -7,74 +8,74 @@ ghost use lib.ListN.{length};
 ghost use Rattle.format.specs.Reading.{Table, run};
 ghost use Rattle.format.specs.Sections.{bit};
 ghost use Rattle.laws.specs.Running.{turns};
-ghost use Rattle.words.specs.Answers.{Below};
+ghost use Rattle.words.specs.Answers.{told, Below};
 ghost use Rattle.sets.specs.Answers.{toldIx};
 ghost use Rattle.sets.specs.Merging as spec;
-use crate::eof;
 use words::Index;
+use words::Step;
 use words::Word;
 
-// Fields 21 and 22: one interval, added to the set's ranges. Answers how many they are then.
-fn deserialize_interval(part: &mut [i32], kept: usize, words: &[i32], at: usize) -> Index
-    requires { ⌜ 2 * kept + 2 ≤ length (now part) ⌝ }
-    ensures says { λ r. ⌜ ((rooms : Table → ℕ) (i : ℕ) → toldIx r (spec.part (now (part .exit))) ≡ run (spec.mergeOne i (spec.part (now (part .entry)) kept)) (now (words .entry)) rooms at) ⌝ }
-    ensures bounded { λ r. ⌜ Below (kept + 2) r ⌝ }
+// Fields 21 and 22: one interval, into the k-th record.
+fn deserialize_interval(part: &mut [i32], k: usize, words: &[i32], at: usize) -> Step
+    requires { ⌜ 2 * k + 2 ≤ length (now part) ⌝ }
+    ensures { λ r. ⌜ ((rooms : Table → ℕ) → told r (now (part .exit)) ≡ run (spec.gatherOne k (now (part .entry))) (now (words .entry)) rooms at) ⌝ }
 {
     match words::read(words, at, 21) {
         Word::Got(start, second) => match words::read(words, second, 22) {
-            Word::Got(stop, next) => Index::Got(ranges::add_range(part, kept, start, stop), next),
-            Word::Refused(r) => Index::Refused(r),
+            Word::Got(stop, next) => {
+                ordering::put(part, k, start, stop);
+                Step::Next(next)
+            }
+            Word::Refused(r) => Step::Refused(r),
         },
-        Word::Refused(r) => Index::Refused(r),
+        Word::Refused(r) => Step::Refused(r),
     }
 }
 
-// n intervals, one after another.
-fn merge_intervals(part: &mut [i32], kept: usize, n: usize, words: &[i32], first: usize) -> Index
-    requires { ⌜ 2 * (kept + n) ≤ length (now part) ⌝ }
-    ensures says { λ r. ⌜ ((rooms : Table → ℕ) → toldIx r (spec.part (now (part .exit))) ≡ run (turns n 0 spec.mergeOne (spec.part (now (part .entry)) kept)) (now (words .entry)) rooms first) ⌝ }
-    ensures bounded { λ r. ⌜ Below (kept + n + 1) r ⌝ }
+// n intervals, one after another, into the records from `first` on.
+fn gather(part: &mut [i32], first: usize, n: usize, words: &[i32], start: usize) -> Step
+    requires { ⌜ 2 * (n + first) ≤ length (now part) ⌝ }
+    ensures { λ r. ⌜ ((rooms : Table → ℕ) → told r (now (part .exit)) ≡ run (turns n first spec.gatherOne (now (part .entry))) (now (words .entry)) rooms start) ⌝ }
 {
-    let mut count = kept;
-    let mut at = first;
-    let mut i: usize = 0;
-    while i < n {
-        match deserialize_interval(part, count, words, at) {
-            Index::Got(more, next) => {
-                count = more;
+    let end = n + first;
+    let mut at = start;
+    let mut i = first;
+    while i < end {
+        match deserialize_interval(part, i, words, at) {
+            Step::Next(next) => {
                 at = next;
             }
-            Index::Refused(r) => {
-                return Index::Refused(r);
+            Step::Refused(r) => {
+                return Step::Refused(r);
             }
         }
         i += 1;
     }
-    Index::Got(count, at)
+    Step::Next(at)
 }
 
-// "The EOF flag, if not 0, adds -1": the ranges of a set before its intervals. Answers how many they are.
+// "The EOF flag, if not 0, adds -1": the records of a set before its intervals. Answers how many they are.
 fn begin_set(part: &mut [i32], flagged: bool) -> usize
     requires { ⌜ 2 * bit flagged ≤ length (now part) ⌝ }
-    ensures { λ r. ⌜ spec.part (now (part .exit)) r ≡ spec.begun flagged (now (part .entry)) ⌝ }
-    ensures { λ r. ⌜ r ≤ bit flagged ⌝ }
+    ensures { λ r. ⌜ r ≡ bit flagged ⌝ }
+    ensures { λ r. ⌜ now (part .exit) ≡ spec.begun flagged (now (part .entry)) ⌝ }
 {
     if flagged {
-        ranges::add_range(part, 0, -1, -1)
-    } else {
-        0
+        ordering::put(part, 0, -1, -1);
+        return 1;
     }
+    0
 }
 
-// A set of n intervals. The records that it may use are cleared first: where intervals join it keeps fewer, and adding a range
-// clears one record at most.
+// A set of n intervals. Its records are all written before any is read.
 pub fn merge_set(part: &mut [i32], flagged: bool, n: usize, words: &[i32], at: usize) -> Index
     requires { ⌜ (n ≤ 65536) × (2 * (n + bit flagged) ≤ length (now part)) ⌝ }
     ensures says { λ r. ⌜ ((rooms : Table → ℕ) → toldIx r (spec.part (now (part .exit))) ≡ run (spec.merging flagged n (now (part .entry))) (now (words .entry)) rooms at) ⌝ }
     ensures bounded { λ r. ⌜ Below (n + bit flagged + 1) r ⌝ }
 {
-    let used = 2 * (n + eof::bit(flagged));
-    tables::clear(&mut part[..used]);
-    let kept = begin_set(part, flagged);
-    merge_intervals(part, kept, n, words, at)
+    let first = begin_set(part, flagged);
+    match gather(part, first, n, words, at) {
+        Step::Next(next) => Index::Got(ranges::normalize(part, n + first), next),
+        Step::Refused(r) => Index::Refused(r),
+    }
 }
