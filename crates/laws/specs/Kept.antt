@@ -70,6 +70,29 @@ unfolding add
 add-from [] b s e f h k = (h, (k, tt))
 add-from (r ∷ l) b s e f h k = from-way b (way s e r l) (add-from l) f h k
 
+-- two ranges that meet or touch have, as one, the members of both
+pub two-in : (k : ℕ) (s e a b : ℤ) → key s ≤ key e → key a ≤ key b → key a ≤ key e + 1 → key s ≤ key b + 1 → Within k (lower s a) (upper e b) ↔ (Within k s e ⊎ Within k a b)
+two-in k s e a b h i m n = (to, fro)
+  where
+    to : Within k (lower s a) (upper e b) → Within k s e ⊎ Within k a b
+    to w = ⊎-elim (λ x. ⊎-elim (λ y. inl (x, y)) (λ y. inr (omega (arith, key-upper e b))) (order k (key e))) (λ x. inr (omega (arith, key-lower s a))) (order (key s) k)
+
+    fro : Within k s e ⊎ Within k a b → Within k (lower s a) (upper e b)
+    fro (inl w) = omega (arith, key-lower s a, key-upper e b)
+    fro (inr w) = omega (arith, key-lower s a, key-upper e b)
+
+pub or-split : {A B C D : Type 0} → D ↔ (A ⊎ B) → (D ⊎ C) ↔ (A ⊎ (B ⊎ C))
+or-split {A} {B} {C} {D} e = (to, fro)
+  where
+    to : D ⊎ C → A ⊎ (B ⊎ C)
+    to (inl x) = ⊎-elim (λ y. inl y) (λ y. inr (inl y)) (e .0 x)
+    to (inr x) = inr (inr x)
+
+    fro : A ⊎ (B ⊎ C) → D ⊎ C
+    fro (inl x) = inl (e .1 (inl x))
+    fro (inr (inl x)) = inl (e .1 (inr x))
+    fro (inr (inr x)) = inr x
+
 -- its members are those that were there and those of the range
 abbrev pub AddIn : List Range → Type 0
 AddIn l = (b : ℕ) (s e : ℤ) (k : ℕ) → From b l → key s ≤ key e → In k (add s e l) ↔ (Within k s e ⊎ In k l)
@@ -100,23 +123,10 @@ in-way {s} {e} {r} {l} b k (behind p q) ih f h = (to, fro)
     fro : Within k s e ⊎ In k (r ∷ l) → In k (range s e ∷ add (r .start) (r .stop) l)
     fro (inl w) = inl w
     fro (inr w) = inr (i .1 w)
-in-way {s} {e} {r} {l} b k (joined p q) ih f h = (λ w. to (i .0 w), λ w. i .1 (fro w))
-  where
-    i : In k (add (lower s (r .start)) (upper e (r .stop)) l) ↔ (Within k (lower s (r .start)) (upper e (r .stop)) ⊎ In k l)
-    i = ih (key (r .stop) + 2) (lower s (r .start)) (upper e (r .stop)) k (f .1 .1) (omega (arith, key-lower s (r .start), key-upper e (r .stop)))
-
-    split : Within k (lower s (r .start)) (upper e (r .stop)) → Within k s e ⊎ Within k (r .start) (r .stop)
-    split w = ⊎-elim (λ a. ⊎-elim (λ c. inl (a, c)) (λ c. inr (omega (arith, key-upper e (r .stop)))) (order k (key e)))
-        (λ a. inr (omega (arith, key-lower s (r .start)))) (order (key s) k)
-
-    to : Within k (lower s (r .start)) (upper e (r .stop)) ⊎ In k l → Within k s e ⊎ In k (r ∷ l)
-    to (inl w) = ⊎-elim (λ x. inl x) (λ x. inr (inl x)) (split w)
-    to (inr w) = inr (inr w)
-
-    fro : Within k s e ⊎ In k (r ∷ l) → Within k (lower s (r .start)) (upper e (r .stop)) ⊎ In k l
-    fro (inl w) = inl (omega (arith, key-lower s (r .start), key-upper e (r .stop)))
-    fro (inr (inl w)) = inl (omega (arith, key-lower s (r .start), key-upper e (r .stop)))
-    fro (inr (inr w)) = inr w
+in-way {s} {e} {r} {l} b k (joined p q) ih f h =
+    let i = ih (key (r .stop) + 2) (lower s (r .start)) (upper e (r .stop)) k (f .1 .1) (omega (arith, key-lower s (r .start), key-upper e (r .stop))) in
+    let o = or-split (two-in k s e (r .start) (r .stop) h (f .1 .0) q p) in
+    ((λ w. o .0 (i .0 w)), (λ w. i .1 (o .1 w)))
 
 pub add-in : (l : List Range) → AddIn l
 unfolding add

@@ -2,8 +2,8 @@
 use mathlib.Core.Path.{_≡_, refl}
 use mathlib.Core.Bool.{Bool, true, false}
 use mathlib.Core.List.{List, [], _∷_}
-use mathlib.Core.Logic.{_⊎_, inl, inr, ⊎-elim, _↔_}
-use Prim.Native.Nat.{ℕ, suc, _+_, _≤_, _<_}
+use mathlib.Core.Logic.{_⊎_, ⊎-map, _↔_}
+use Prim.Native.Nat.{ℕ, suc, _+_, _≤_, _<_, min, max}
 use native.Mathlib.Omega.{arith}
 use lib.Dec.{leb, ltb}
 use lib.ListN.{length}
@@ -12,9 +12,8 @@ use mir.Val.{SFits}
 use borrow.Author.Tests.{leb-true, leb-false, le-leb, ltb-true, ltb-false}
 use Rattle.format.specs.Reading.{pick}
 use Rattle.format.specs.Sets.{Range, key, keep}
-use Rattle.laws.specs.Order.{order}
 use Rattle.laws.specs.Canonical.{From, Canonical, Within, In, Fit, Given}
-use Rattle.laws.specs.Kept.{key-lower, key-upper, fit-lower, fit-upper, keep-only}
+use Rattle.laws.specs.Kept.{key-lower, key-upper, two-in, or-split, fit-lower, fit-upper, keep-only}
 use Rattle.laws.specs.Gives.{Every}
 use Rattle.ranges.specs.Joining.{straight, meets, both, joinOn, joinAll, risesOn, risesAll}
 
@@ -26,24 +25,22 @@ pub record Good (r : Range) : Type 0 where
   pub stop : SFits w32 (r .stop)
   pub formed : key (r .start) ≤ key (r .stop)
 
-pub good-straight : (r : Range) → SFits w32 (r .start) → SFits w32 (r .stop) → Good (straight r)
-good-straight r f g =
-    record {
-      start = fit-lower (r .start) (r .stop) f g;
-      stop = fit-upper (r .start) (r .stop) f g;
-      formed = omega (arith, key-lower (r .start) (r .stop), key-upper (r .start) (r .stop));
-    }
-
 formed-straight : (r : Range) → key (straight r .start) ≤ key (straight r .stop)
 formed-straight r = omega (arith, key-lower (r .start) (r .stop), key-upper (r .start) (r .stop))
 
+pub good-straight : (r : Range) → SFits w32 (r .start) → SFits w32 (r .stop) → Good (straight r)
+good-straight r f g = record { start = fit-lower (r .start) (r .stop) f g; stop = fit-upper (r .start) (r .stop) f g; formed = formed-straight r }
+
 module _ (p q : Range) where
+  both-keys : (key (both p q .start) ≡ min (key (p .start)) (key (q .start))) × (key (both p q .stop) ≡ max (key (p .stop)) (key (q .stop)))
+  both-keys = (key-lower (p .start) (q .start), key-upper (p .stop) (q .stop))
+
   good-both : Good p → Good q → Good (both p q)
   good-both f g =
       record {
         start = fit-lower (p .start) (q .start) (f .start) (g .start);
         stop = fit-upper (p .stop) (q .stop) (f .stop) (g .stop);
-        formed = omega (arith, key-lower (p .start) (q .start), key-upper (p .stop) (q .stop), f .formed, g .formed);
+        formed = omega (arith, both-keys, f .formed, g .formed);
       }
 
   -- the three ways in which two ranges lie
@@ -73,26 +70,11 @@ on-in (r ∷ l) p k h = go (λ x. on-in l x k) (meets p q) (way p q)
 
     go : ((x : Range) → key (x .start) ≤ key (x .stop) → In k (joinOn x l) ↔ (Within k (x .start) (x .stop) ⊎ Given k l))
         → (t : Bool) → Way p q t → In k (pick t (joinOn (both p q) l) (p ∷ joinOn q l)) ↔ (Within k (p .start) (p .stop) ⊎ Given k (r ∷ l))
-    go ih true (joined h1 h2) = ((λ w. to (i .0 w)), (λ w. i .1 (fro w)))
-      where
-        i : In k (joinOn (both p q) l) ↔ (Within k (both p q .start) (both p q .stop) ⊎ Given k l)
-        i = ih (both p q) (omega (arith, key-lower (p .start) (q .start), key-upper (p .stop) (q .stop), h, formed-straight r))
-
-        to : Within k (both p q .start) (both p q .stop) ⊎ Given k l → Within k (p .start) (p .stop) ⊎ Given k (r ∷ l)
-        to (inl w) =
-            ⊎-elim
-            (λ c. ⊎-elim (λ d. inl (c, d)) (λ d. inr (inl (omega (arith, key-lower (p .start) (q .start), key-upper (p .stop) (q .stop))))) (order k (key (p .stop))))
-            (λ c. inr (inl (omega (arith, key-lower (p .start) (q .start), key-upper (p .stop) (q .stop)))))
-            (order (key (p .start)) k)
-        to (inr w) = inr (inr w)
-
-        fro : Within k (p .start) (p .stop) ⊎ Given k (r ∷ l) → Within k (both p q .start) (both p q .stop) ⊎ Given k l
-        fro (inl w) = inl (omega (arith, key-lower (p .start) (q .start), key-upper (p .stop) (q .stop)))
-        fro (inr (inl w)) = inl (omega (arith, key-lower (p .start) (q .start), key-upper (p .stop) (q .stop)))
-        fro (inr (inr w)) = inr w
-    go ih false w =
-        let i = ih q (formed-straight r) in
-        ((λ w. ⊎-elim (λ x. inl x) (λ x. inr (i .0 x)) w), (λ w. ⊎-elim (λ x. inl x) (λ x. inr (i .1 x)) w))
+    go ih true (joined m n) =
+        let i = ih (both p q) (omega (arith, both-keys p q, h, formed-straight r)) in
+        let o = or-split (two-in k (p .start) (p .stop) (q .start) (q .stop) h (formed-straight r) m n) in
+        ((λ w. o .0 (i .0 w)), (λ w. i .1 (o .1 w)))
+    go ih false w = let i = ih q (formed-straight r) in (⊎-map (λ x. x) (i .0), ⊎-map (λ x. x) (i .1))
 
 pub all-in : (l : List Range) (k : ℕ) → In k (joinAll l) ↔ Given k l
 all-in [] k = ((λ w. w), (λ w. w))
@@ -132,7 +114,7 @@ on-from (r ∷ l) p b t h k = go (on-from l) (leb (key (p .start)) (key (q .star
         → From b (pick m (joinOn (both p q) l) (p ∷ joinOn q l))
     go ih true e true w s =
         let f = leb-true (key (p .start)) (key (q .start)) e in
-        ih (both p q) b s (omega (arith, key-lower (p .start) (q .start))) (omega (arith, key-lower (p .start) (q .start), key-upper (p .stop) (q .stop)))
+        ih (both p q) b s (omega (arith, both-keys p q)) (omega (arith, both-keys p q))
     go ih true e false w s = (h, (k, ih q (key (p .stop) + 2) s (gap w) (formed-straight r)))
       where
         gap : Way p q false → key (p .stop) + 2 ≤ key (q .start)
@@ -191,7 +173,7 @@ on-rises (r ∷ l) p g a = go (on-rises l) (leb (key (p .start)) (key (q .start)
 
     go : ((x : Range) → Every Good l → Ascending (key (x .start)) l → risesOn x l ≡ true)
         → (u : Bool) → leb (key (p .start)) (key (q .start)) ≡ u → (m : Bool) → pick u (pick m (risesOn (both p q) l) (risesOn q l)) false ≡ true
-    go ih true e true = ih (both p q) (g .1) (ascending-less l (omega (arith, key-lower (p .start) (q .start))) on)
+    go ih true e true = ih (both p q) (g .1) (ascending-less l (omega (arith, both-keys p q)) on)
     go ih true e false = ih q (g .1) on
     go ih false e m = absurd (omega (arith, leb-false (key (p .start)) (key (q .start)) e, key-lower (r .start) (r .stop), g .0 .formed, a .0))
 
@@ -204,7 +186,7 @@ given-in : (l : List Range) (k : ℕ) → Every Good l → Given k l ↔ In k l
 given-in [] k g = ((λ w. w), (λ w. w))
 given-in (r ∷ l) k g =
     let i = given-in l k (g .1) in
-    rw (le-leb (key (r .start)) (key (r .stop)) (g .0 .formed)) ((λ w. ⊎-elim (λ x. inl x) (λ x. inr (i .0 x)) w), (λ w. ⊎-elim (λ x. inl x) (λ x. inr (i .1 x)) w))
+    rw (le-leb (key (r .start)) (key (r .stop)) (g .0 .formed)) (⊎-map (λ x. x) (i .0), ⊎-map (λ x. x) (i .1))
 
 -- what was left of them was put in order, and joined again
 pub kept-sorted : (rs l : List Range) → Fit rs → Every Good l → Ascending 0 l → ((k : ℕ) → In k l ↔ In k (joinAll rs)) → joinAll l ≡ keep rs
