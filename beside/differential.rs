@@ -18,7 +18,6 @@ mod told;
 mod walk;
 
 use lists::{dialects, full, hand_built, over_sets, whole};
-use orders::{ARRANGED, Interval, KINDS};
 use rooms::{Room, USUAL};
 use run::{Care, PLAIN, Run};
 use seeded::{SHAPES, damaged, large_set, loose, network, some_words};
@@ -109,27 +108,24 @@ fn every_short_list(run: &mut Run) {
 
 /// Sets of all sizes up to some thousand intervals, in every order, flagged and not; all of them in one list; and seeded ones.
 fn large_sets(run: &mut Run, bounded: bool) {
+    let family = "sets in every order";
     let care = Care { rooms: 4, questions: 2_000, again: 1, most: USUAL };
-    let sets = |n: usize| -> Vec<Vec<Interval>> {
-        let arranged = |kind: orders::Kind| ARRANGED.map(|(_, arrange)| { let mut list = kind(n); arrange(&mut list); list });
-        KINDS.into_iter().flat_map(|(_, kind)| arranged(kind)).collect()
-    };
-    let many: &[usize] = if bounded { &[600, 2_400] } else { &[600, 1_200, 2_400, 4_800] };
     for n in (1..=12).chain([16, 17, 63, 64, 65, 200]) {
-        for (at, intervals) in sets(n).into_iter().enumerate() {
-            run.list("sets in every order", &over_sets(&[(0, intervals.clone())]), care);
-            run.list("sets in every order", &over_sets(&[(1 + at as i32, intervals)]), care);
+        for (at, intervals) in orders::all(n).into_iter().enumerate() {
+            run.list(family, &over_sets(&[(0, intervals.clone())]), care);
+            run.list(family, &over_sets(&[(1 + at as i32, intervals)]), care);
         }
     }
+    let many: &[usize] = if bounded { &[600, 2_400] } else { &[600, 1_200, 2_400, 4_800] };
     for &n in many {
         eprintln!("  {n} intervals");
-        for (at, intervals) in sets(n).into_iter().enumerate() {
-            run.list("sets in every order", &over_sets(&[((at % 3) as i32, intervals)]), Care { rooms: 2, ..care });
+        for (at, intervals) in orders::all(n).into_iter().enumerate() {
+            run.list(family, &over_sets(&[((at % 3) as i32, intervals)]), Care { rooms: 2, ..care });
         }
     }
     for n in [5, 40] {
-        let all: Vec<_> = sets(n).into_iter().enumerate().map(|(at, intervals)| ((at % 2) as i32, intervals)).collect();
-        run.list("sets in every order", &over_sets(&all), care);
+        let flagged = |(at, intervals)| ((at % 2) as i32, intervals);
+        run.list(family, &over_sets(&orders::all(n).into_iter().enumerate().map(flagged).collect::<Vec<_>>()), care);
     }
     for _ in 0..if bounded { 300 } else { 3_000 } {
         let list = over_sets(&[large_set(&mut run.rng), large_set(&mut run.rng)]);

@@ -2,14 +2,20 @@
 
 pub type Interval = (i32, i32);
 
-/// n intervals in the order of their starts.
-pub type Kind = fn(usize) -> Vec<Interval>;
+/// n intervals of every kind, in every order.
+pub fn all(n: usize) -> Vec<Vec<Interval>> {
+    let mut lists = Vec::new();
+    for kind in [apart, touching, equal, equal_starts, overlapping, nested] {
+        for arrange in [in_order, reverse, shuffle, swap_and_shuffle] {
+            let mut list = kind(n);
+            arrange(&mut list);
+            lists.push(list);
+        }
+    }
+    lists
+}
 
-/// What the intervals are to each other. The places of single ones differ, so that one that is lost or stands elsewhere is noticed.
-pub const KINDS: [(&str, Kind); 6] = [
-    ("apart", apart), ("touching", touching), ("all equal", equal), ("equal starts", equal_starts), ("all overlapping", overlapping),
-    ("nested", nested),
-];
+// ---- what the intervals are to each other; all are made in the order of their starts
 
 fn each(n: usize, one: impl Fn(i32) -> Interval) -> Vec<Interval> {
     (0..n as i32).map(one).collect()
@@ -44,9 +50,13 @@ pub fn nested(n: usize) -> Vec<Interval> {
     each(n, |i| (i, 3 * n as i32 - i))
 }
 
-/// How they are named.
-pub const ARRANGED: [(&str, fn(&mut [Interval])); 4] =
-    [("in order", |_| ()), ("reversed", |list| list.reverse()), ("shuffled", shuffle), ("ends swapped, shuffled", swap_and_shuffle)];
+// ---- the order in which they are named
+
+fn in_order(_: &mut [Interval]) {}
+
+fn reverse(list: &mut [Interval]) {
+    list.reverse();
+}
 
 /// The order is the same in every run: the generator starts from a fixed number.
 pub fn shuffle(list: &mut [Interval]) {
