@@ -106,7 +106,8 @@ fn every_short_list(run: &mut Run) {
     }
 }
 
-/// Sets of all sizes up to some thousand intervals, in every order, flagged and not; all of them in one list; and seeded ones.
+/// Sets of one to some thousand intervals in every order, flagged and not, or by turns if they are large; sets of one size all in one
+/// list; and seeded ones.
 fn large_sets(run: &mut Run, bounded: bool) {
     let family = "sets in every order";
     let care = Care { rooms: 4, questions: 2_000, again: 1, most: USUAL };

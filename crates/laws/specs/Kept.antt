@@ -81,6 +81,7 @@ two-in k s e a b h i m n = (to, fro)
     fro (inl w) = omega (arith, key-lower s a, key-upper e b)
     fro (inr w) = omega (arith, key-lower s a, key-upper e b)
 
+-- one of two that come to a third, or a fourth
 pub or-split : {A B C D : Type 0} → D ↔ (A ⊎ B) → (D ⊎ C) ↔ (A ⊎ (B ⊎ C))
 or-split {A} {B} {C} {D} e = (to, fro)
   where

@@ -1,4 +1,4 @@
 -- Lemmas of the functions' proofs, and of those that use them.
 pub mod Tested
 pub mod Heaps
-pub mod Moves
+mod Moves

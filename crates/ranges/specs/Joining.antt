@@ -55,16 +55,17 @@ abbrev pub risesAll : List Range → Bool
 risesAll [] = true
 risesAll (r ∷ l) = risesOn (straight r) l
 
--- The two words of the i-th record are 32-bit numbers: seen as they are read.
+-- The two words of the i-th record are 32-bit numbers, which is known once they were read.
 abbrev pub FitAt : List ℤ → ℕ → Type 0
 FitAt ws i = SFits w32 (getD ws (2 * i) (pos 0)) × SFits w32 (getD ws (2 * i + 1) (pos 0))
 
--- One of the i-th record's ends, in order.
+-- r is that end of the i-th record, once its ends are in order; its two words were read.
 pub record End (ws : List ℤ) (i : ℕ) (end : Range → ℤ) (r : ℤ) : Type 0 where
   pub is : r ≡ end (straight (pairAt ws i))
   pub fits : FitAt ws i
 
 -- Of n intervals at the front of ws, vs has what is left of them once they were joined, and r says how many and whether they rose.
+-- All of their words were read.
 pub record Joins (ws vs : List ℤ) (n : ℕ) (r : Joined) : Type 0 where
   pub count : r .count ≡ length (joinAll (rangesIn ws n))
   pub rising : r .rising ≡ risesAll (rangesIn ws n)

@@ -61,8 +61,8 @@ fn still(rising: bool, low: i32, a: i32) -> bool
     false
 }
 
-// The first n records: each is joined with what is left of those before it where the two meet or touch. One forward pass, which
-// carries the range that is still to be stored, so that no store overtakes what is still to be read.
+// The first n records: each is joined with the range before it where the two meet or touch. One forward pass, which carries that range,
+// still to be stored, so that no store overtakes what is still to be read.
 pub fn join(part: &mut [i32], n: usize) -> Joined
     requires { ⌜ 2 * n ≤ length (now part) ⌝ }
     ensures { λ r. ⌜ Joins (now (part .entry)) (now (part .exit)) n r ⌝ }

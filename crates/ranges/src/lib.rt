@@ -13,8 +13,8 @@ ghost use Rattle.ranges.specs.Laid.{keptOf};
 ghost use Rattle.ranges.specs.Joining.{Merges};
 use ordering::order;
 
-// The ranges that a set keeps of the n intervals at the front of `part`. Answers how many. Where no start lies below the one before it,
-// as ANTLR writes them, one pass is all; else what it leaves is put in order, and a second one does the rest.
+// The ranges that a set keeps of the n intervals at the front of `part`. Answers how many. Where no interval starts below the range
+// before it, as ANTLR writes them, one pass is all; else what it leaves is put in order, and a second one does the rest.
 fn merge(part: &mut [i32], n: usize) -> usize
     requires { ⌜ 2 * n ≤ length (now part) ⌝ }
     ensures { λ r. ⌜ Merges (now (part .entry)) (now (part .exit)) n r ⌝ }

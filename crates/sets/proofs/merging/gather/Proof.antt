@@ -2,7 +2,7 @@
 use denote.Ref.{now}
 use borrow.Author.Needs.{needs}
 use mathlib.Core.Path.{_≡_, refl, sym, ap, _∙_}
-use Prim.Native.Nat.{ℕ, _+_, _-_, _≤_}
+use Prim.Native.Nat.{ℕ, _+_, _-_}
 use native.Mathlib.Omega.{arith}
 use lib.ListN.{length}
 use Rattle.format.specs.Reading.{Table, run}
@@ -14,7 +14,6 @@ use Rattle.sets.proofs.merging.gather.Tie as tie
 abbrev Inv-loop : tie.InvT-loop
 Inv-loop part₀ first n words start end at₀ i₀ part at i =
     (length part ≡ length part₀)
-    × (i ≤ end)
     × ((rooms : Table → ℕ) → run (turns n first gatherOne part₀) words rooms start ≡ run (turns (end - i) i gatherOne part) words rooms at)
 
 abbrev μ-loop : tie.MeasureT-loop
@@ -24,7 +23,7 @@ loop-holds : tie.Need-loop-holds Inv-loop μ-loop
 loop-holds c =
     let a = c .args in
     let all : a .n ≡ a .n + a .first - a .first = omega arith in
-    (refl, omega arith, λ rooms. ap (λ (k : ℕ). run (turns k (a .first) gatherOne (now (a .part))) (now (a .words)) rooms (a .start)) all)
+    (refl, λ rooms. ap (λ (k : ℕ). run (turns k (a .first) gatherOne (now (a .part))) (now (a .words)) rooms (a .start)) all)
 
 same-length : tie.Need-same-length Inv-loop μ-loop
 same-length c = c .before .before .before .before .deserialize-interval .kept .0 ∙ c .before .before .before .before .before .before .before .loop .inv .0
@@ -34,7 +33,7 @@ returns c =
     let a = c .before .before .before .before .before .before .before .before .args in
     let l = c .before .before .before .before .before .before .before .loop in
     λ rooms.
-    sym (l .inv .2 rooms
+    sym (l .inv .1 rooms
     ∙ turn-no gatherOne (now (a .words)) rooms (a .n + a .first) (l .i) (l .part) (l .at) (c .before .before .before .before .before .before .loop-test .taken) (rw (c .before .r .given .1) at (c .before .before .before .before .deserialize-interval .ensures rooms)))
 
 loop-again : tie.Need-loop-again Inv-loop μ-loop
@@ -42,9 +41,8 @@ loop-again c =
     let a = c .before .before .before .before .before .before .before .before .args in
     let l = c .before .before .before .before .before .before .before .loop in (
       c .before .before .before .before .deserialize-interval .kept .0 ∙ l .inv .0,
-      omega arith,
       λ rooms.
-          l .inv .2 rooms
+          l .inv .1 rooms
           ∙ turn-ok gatherOne (now (a .words)) rooms (a .n + a .first) (l .i) (l .part) (l .at) (c .before .before .before .before .before .before .loop-test .taken) (rw (c .before .next .given .1) at (c .before .before .before .before .deserialize-interval .ensures rooms)),
     )
 
@@ -55,7 +53,7 @@ returns-2 : tie.Need-returns-2 Inv-loop μ-loop
 returns-2 c =
     let a = c .before .before .args in
     let l = c .before .loop in
-    λ rooms. sym (l .inv .2 rooms ∙ turns-over gatherOne (now (a .words)) rooms (a .n + a .first) (l .i) (l .part) (l .at) (c .loop-test .left))
+    λ rooms. sym (l .inv .1 rooms ∙ turns-over gatherOne (now (a .words)) rooms (a .n + a .first) (l .i) (l .part) (l .at) (c .loop-test .left))
 
 pub gather-spec : {M : Type 1} → statement M
 gather-spec =
