@@ -28,7 +28,7 @@ pub record Good (r : Range) : Type 0 where
 formed-straight : (r : Range) → key (straight r .start) ≤ key (straight r .stop)
 formed-straight r = omega (arith, key-lower (r .start) (r .stop), key-upper (r .start) (r .stop))
 
-pub good-straight : (r : Range) → SFits w32 (r .start) → SFits w32 (r .stop) → Good (straight r)
+good-straight : (r : Range) → SFits w32 (r .start) → SFits w32 (r .stop) → Good (straight r)
 good-straight r f g = record { start = fit-lower (r .start) (r .stop) f g; stop = fit-upper (r .start) (r .stop) f g; formed = formed-straight r }
 
 module _ (p q : Range) where

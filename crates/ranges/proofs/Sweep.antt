@@ -11,15 +11,17 @@ use lib.IntN.{ℤ, pos}
 use lib.ListN.{length, getD, drop, length-append, length-set, drop-of-length-le}
 use lib.Seq.{drop-cons}
 use mir.Syntax.{w32}
-use mir.Val.{SFits}
+use mir.Val.{SFits, toZ, ofZ}
+use mir.ValLaws.{toZ-ofZ}
 use Rattle.format.specs.Reading.{pick}
 use Rattle.format.specs.Sets.{Range, range, key, at}
 use Rattle.laws.specs.Canonical.{Fit}
 use Rattle.ordering.specs.Records.{pairAt, putAt}
 use Rattle.ordering.proofs.Heaps.{same}
+use Rattle.ordering.proofs.Tested.{plain}
 use Rattle.ranges.specs.Laid.{rangesIn, over}
 use Rattle.ranges.specs.Words.{in-long, in-part, over-at, over-put}
-use Rattle.ranges.specs.Joining.{straight, meets, both, joinOn, joinAll, risesOn, risesAll, FitAt, Joins}
+use Rattle.ranges.specs.Joining.{straight, meets, both, joinOn, joinAll, risesOn, risesAll, FitAt, End, Joins}
 use Rattle.ranges.specs.declared.joining.Joined.{Joined}
 
 fit-at : (l : List Range) → ((i : ℕ) → i < length l → SFits w32 (at l i .start) × SFits w32 (at l i .stop)) → Fit l
@@ -33,6 +35,13 @@ fit-in ws n room f =
 
 pub none : (ws : List ℤ) {n : ℕ} → n ≡ 0 → Joins ws ws n (record { count = 0; rising = true })
 none ws e = rw e (record { count = refl; rising = refl; words = refl; fits = tt })
+
+-- one end of a record: what f makes of its two words, though all three went through locals
+pub end-read : (ws : List ℤ) (i : ℕ) (f : ℤ → ℤ → ℤ) (end : Range → ℤ) → f (getD ws (2 * i) (pos 0)) (getD ws (2 * i + 1) (pos 0)) ≡ end (straight (pairAt ws i))
+    → SFits w32 (getD ws (2 * i) (pos 0)) → SFits w32 (getD ws (2 * i + 1) (pos 0)) → {r : ℤ} → SFits w32 r
+    → r ≡ f (toZ w32 (ofZ w32 (getD ws (2 * i) (pos 0)))) (toZ w32 (ofZ w32 (getD ws (2 * i + 1) (pos 0)))) → End ws i end (toZ w32 (ofZ w32 r))
+end-read ws i f end e fa fb {r} fr h =
+    record { is = toZ-ofZ w32 r fr ∙ plain f (getD ws (2 * i) (pos 0)) (getD ws (2 * i + 1) (pos 0)) fa fb h ∙ e; fits = (fa, fb) }
 
 -- After i records of ws are read and out are stored, p is still to be stored; `rising` says whether the starts rose so far.
 pub record Going (ws vs : List ℤ) (n : ℕ) (p : Range) (rising : Bool) (out i : ℕ) : Type 0 where

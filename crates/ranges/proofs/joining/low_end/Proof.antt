@@ -1,27 +1,16 @@
 -- `joining::low_end` meets its contract. Assumes nothing.
 use denote.Ref.{now}
-use mathlib.Core.Path.{_∙_}
-use Prim.Native.Nat.{_+_, _*_}
-use lib.IntN.{pos}
-use lib.ListN.{getD}
-use mir.Syntax.{w32}
-use mir.Val.{SFits}
-use mir.ValLaws.{toZ-ofZ}
+use mathlib.Core.Path.{refl}
 use Rattle.format.specs.Sets.{lower}
-use Rattle.ordering.proofs.Tested.{plain}
+use Rattle.ranges.proofs.Sweep.{end-read}
 use borrow.Author.Needs.{needs}
 use Rattle.ranges.proofs.joining.low_end.Statement.{statement}
 use Rattle.ranges.proofs.joining.low_end.Tie as tie
 
 returns : tie.Need-returns
 returns c =
-    let s = c .before .before .before in
-    let v = now (s .args .part) in
-    let a = getD v (2 * s .args .i) (pos 0) in
-    let b = getD v (2 * s .args .i + 1) (pos 0) in
-    let fa : SFits w32 a = record { sfits = c .before .before .a .given } in
-    let fb : SFits w32 b = record { sfits = c .before .b .given } in
-    record { is = toZ-ofZ w32 (c .lower .result) (record { sfits = c .lower .ok }) ∙ plain lower a b fa fb (c .lower .ensures); fits = (fa, fb) }
+    let a = c .before .before .before .args in
+    end-read (now (a .part)) (a .i) lower (λ q. q .start) refl (record { sfits = c .before .before .a .given }) (record { sfits = c .before .b .given }) (record { sfits = c .lower .ok }) (c .lower .ensures)
 
 pub low-end-spec : {M : Type 1} → statement M
 low-end-spec =
