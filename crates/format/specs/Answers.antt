@@ -5,6 +5,8 @@ use lib.IntN.{ℤ, pos}
 use Rattle.format.specs.Sections.{bit}
 use Rattle.format.specs.declared.Decoded.{Decoded}
 use Rattle.format.specs.declared.Decoded.the-variants as D
+use Rattle.format.specs.declared.Written.{Written}
+use Rattle.format.specs.declared.Written.the-variants as W
 use Rattle.format.specs.declared.NthEdge.{NthEdge}
 use Rattle.format.specs.declared.NthEdge.the-variants as E
 use Rattle.format.specs.declared.Matching.{Matching}
@@ -26,6 +28,11 @@ ofDecoded (D.Accepted c) =
     said 0 (pos (c .words) ∷ c .token ∷ pos (c .states) ∷ pos (c .edges) ∷ pos (c .derived) ∷ pos (c .ranges) ∷ pos (c .sets)
     ∷ pos (c .rules) ∷ pos (c .modes) ∷ pos (c .decisions) ∷ pos (c .actions) ∷ [])
 ofDecoded (D.Refused r) = said (r .number) (pos (r .number) ∷ pos (r .field) ∷ pos (r .place) ∷ r .value ∷ [])
+
+-- The number of words; or number, field, place, value.
+abbrev pub ofWritten : Written → Said
+ofWritten (W.Wrote n) = said 0 (pos n ∷ [])
+ofWritten (W.Refused r) = said (r .number) (pos (r .number) ∷ pos (r .field) ∷ pos (r .place) ∷ r .value ∷ [])
 
 -- The edge's number; or number and value.
 abbrev pub ofNthEdge : NthEdge → Said

@@ -1,4 +1,12 @@
-// The types of document 01's answers, and its table of the thirteen state types. The definitions are in specs/.
+// The types of document 01's answers, its table of the thirteen state types, and the places of a record's words (state, edge, range, set,
+// rule, action). The definitions are in specs/.
+
+pub mod action;
+pub mod edge;
+pub mod range;
+pub mod rule;
+pub mod set;
+pub mod state;
 
 ghost use mathlib.Core.Path.{_≡_};
 ghost use lib.ListN.{getD};
@@ -30,6 +38,12 @@ pub struct Counts {
 // Either an acceptance holding its counts or a refusal holding its number, field, place and value.
 pub enum Decoded {
     Accepted(Counts),
+    Refused(Refusal),
+}
+
+// The number of words that were written, or why none were (document 02, R-1).
+pub enum Written {
+    Wrote(usize),
     Refused(Refusal),
 }
 

@@ -1,0 +1,7 @@
+// The words of a range's record: each one's place, and how many there are (document 01, "Lent tables").
+
+pub const START: usize = 0;
+
+pub const STOP: usize = 1;
+
+pub const WIDTH: usize = 2;

@@ -1,0 +1,11 @@
+-- The laws of document 02's R-1: what is written is read again as it was, and when it is refused.
+pub mod Formed
+pub mod Tests
+pub mod Takes
+pub mod Parts
+pub mod Edges
+pub mod Reads
+pub mod Whole
+pub mod Plain
+pub mod Laws
+pub mod Found
