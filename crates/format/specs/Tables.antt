@@ -3,7 +3,7 @@ use mathlib.Core.List.{List, [], _∷_, _++_}
 use Prim.Native.Nat.{ℕ, _+_, _-_, _*_, _/_, min}
 use lib.Dec.{ltb}
 use lib.IntN.{ℤ, pos}
-use lib.ListN.{length, replicate}
+use lib.ListN.{length, replicate, take, drop}
 use Rattle.format.specs.Reading.{Table, States, Edges, Ranges, Sets, Rules, Modes, Decisions, Actions, Scratch, pick}
 use Rattle.format.specs.Sets.{Range}
 use Rattle.format.specs.Sections.{State, Rule, Edge, Action, Read, among, bit}
@@ -25,6 +25,10 @@ nine st ed ra se ru mo de ac sc Scratch = sc
 -- "Words per record": states, edges, ranges, sets, rules, modes, decisions, actions, scratch (4 per state).
 abbrev pub width : Table → ℕ
 width = nine 8 8 2 2 3 1 1 3 4
+
+-- Record i of a table whose records have w words.
+abbrev pub rowAt : ℕ → List ℤ → ℕ → List ℤ
+rowAt w t i = take w (drop (w * i) t)
 
 -- "Room is the number of whole records, counted as 65,536 at most"; lent are the slices' lengths in words.
 abbrev pub whole : (Table → ℕ) → Table → ℕ

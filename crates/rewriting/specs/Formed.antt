@@ -46,10 +46,10 @@ abbrev pub kept : ℕ → List Range → Bool
 kept b [] = true
 kept b (x ∷ l) = let rest = kept (key (x .stop) + 2) l in leb b (key (x .start)) && leb (key (x .start)) (key (x .stop)) && rest
 
--- By the type; m states and n sets are listed.
-abbrev pub edgeRead : ℕ → ℕ → Edge → Bool
-edgeRead m n e =
-    ltb (e .source) m && getD (false
+-- p, q and r by the type; n sets are listed.
+abbrev pub argsRead : ℕ → Edge → Bool
+argsRead n e =
+    getD (false
     ∷ (nought (e .p) && nought (e .q) && nought (e .r))  -- 1 epsilon
     ∷ nought (e .r)  -- 2 range
     ∷ (natural (e .p) && natural (e .q))  -- 3 rule
@@ -61,6 +61,10 @@ edgeRead m n e =
     ∷ (nought (e .p) && nought (e .q) && nought (e .r))  -- 9 wildcard
     ∷ (nought (e .q) && nought (e .r))  -- 10 precedence
     ∷ []) (e .kind) false
+
+-- m states and n sets are listed.
+abbrev pub edgeRead : ℕ → ℕ → Edge → Bool
+edgeRead m n e = ltb (e .source) m && argsRead n e
 
 abbrev pub actionRead : Action → Bool
 actionRead x =

@@ -9,3 +9,5 @@ pub mod Whole
 pub mod Plain
 pub mod Laws
 pub mod Found
+-- Refusal 15 as tests of the tables
+pub mod Passes

@@ -1,11 +1,11 @@
-// Words of the lent tables (document 01, "Lent tables"): clearing a table, and one word of it read or written as a record's number.
+// Words of the lent tables (document 01, "Lent tables"): clearing a table, a record of it, and one word of it read or written as a record's number.
 // Everything that is signed about them stays in here.
 
 ghost use mathlib.Core.Path.{_≡_};
-ghost use Prim.Native.Nat.{_<_, _^_};
+ghost use Prim.Native.Nat.{_+_, _*_, _<_, _≤_, _^_};
 ghost use lib.IntN.{pos};
 ghost use lib.ListN.{length, getD, set};
-ghost use Rattle.format.specs.Tables.{zeros};
+ghost use Rattle.format.specs.Tables.{rowAt, zeros};
 ghost use Rattle.tables.specs.Words.{spot, numberAt};
 
 // Every word becomes 0.
@@ -32,6 +32,16 @@ pub fn number_at(t: &[i32], i: usize) -> usize
     ensures { λ r. ⌜ r ≡ numberAt (now (t .entry)) i ⌝ }
 {
     spot_of(t[i])
+}
+
+// Record i, of so many words.
+pub fn row<'a>(t: &'a [i32], width: usize, i: usize) -> &'a [i32]
+    requires { ⌜ width * i + width ≤ length (now t) ⌝ }
+    ensures { λ r. ⌜ now r ≡ rowAt width (now (t .entry)) i ⌝ }
+{
+    let from = width * i;
+    let to = from + width;
+    &t[from..to]
 }
 
 // A number becomes word i.
