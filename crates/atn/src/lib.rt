@@ -13,7 +13,7 @@ mod search;
 
 // Whether edge e is a rule edge with a safe follow state: most edges are none, and are passed over by their type.
 // A follow state of another rule is never safe for the source's rule, so that the search for its own rule serves.
-fn tail_call_follow_is_safe(
+pub fn tail_call_follow_is_safe(
     states: &[i32],
     edges: &[i32],
     rules: &[i32],

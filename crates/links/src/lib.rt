@@ -18,6 +18,10 @@ mod numbers;
 mod precedence;
 mod returns;
 
+// What a return edge and a precedence decision hang on, by itself: what is written from tables is held to it.
+pub use precedence::decides;
+pub use returns::return_stop;
+
 // The edge i becomes the last of its source's chain.
 pub fn chain_edge(states: &mut [i32], edges: &mut [i32], i: usize, source: usize)
     requires { ⌜ (8 * source + 8 ≤ length (now states)) × (8 * i + 8 ≤ length (now edges)) × (i < 2 ^ 31) ⌝ }

@@ -75,7 +75,7 @@ fn loops(states: &[i32], edges: &[i32], n: usize, m: usize, s: usize) -> bool
 }
 
 // The state s is a precedence decision.
-fn decides(
+pub fn decides(
     states: &[i32],
     edges: &[i32],
     rules: &[i32],

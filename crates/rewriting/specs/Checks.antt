@@ -28,7 +28,7 @@ use Rattle.rewriting.specs.Passes.{stateFine, edgeFine, actionFine}
 use Rattle.rewriting.specs.Found.{most, Found}
 use Rattle.rewriting.specs.Tests.{lie, both, left, right}
 use Rattle.rewriting.specs.Fine.{statesIn, edgesIn, ownIn, rulesIn, rulesOf, at, Fine, inRow, counts, map-long, row-cuts, fine-exactly}
-use Rattle.rewriting.specs.Climbs.{sum, edgeAt, climb, Chained, climbs-exactly}
+use Rattle.rewriting.specs.Climbs.{sum, edgeAt, sources, climb, Chained, climbs-exactly}
 
 abbrev pub flag4 : List ℤ → Bool
 flag4 x = among (cellSize x stFlags) (4 ∷ 5 ∷ 6 ∷ 7 ∷ [])
@@ -47,7 +47,7 @@ pub record Wired (T : Table → List (List ℤ)) (o : ℕ) : Type 0 where
   pub edges : (i : ℕ) → i < length (T Edges) → edgeFine (length (T States)) (row T Edges i) ≡ true
   pub arguments : (i : ℕ) → i < length (T Edges) → argsRead (length (T Sets)) (edgeBack (row T Edges i)) ≡ true
   -- the chains
-  pub climbs : (s : ℕ) → s < length (T States) → climb (edgesIn T) (λ i. at T Edges i edNext) s (at T States s stFirst) (at T States s stLast) (at T States s stCount) ≡ true
+  pub climbs : (s : ℕ) → s < length (T States) → climb (length (edgesIn T)) (sources (edgesIn T)) (λ i. at T Edges i edNext) s (at T States s stFirst) (at T States s stLast) (at T States s stCount) ≡ true
   pub counted : sum (length (T States)) (λ s. size (at T States s stCount)) ≡ length (T Edges)
   -- the rules
   pub starts : (R : ℕ) → R < length (T Rules) → natural (at T Rules R ruStart) ≡ true
@@ -391,7 +391,7 @@ module _ (T : Table → List (List ℤ)) (token : ℤ) where
     from-listed : (i : ℕ) → i < length (T Edges) → cellSize (row T Edges i) edSource < length (T States)
     from-listed i h = ⊎-elim (λ x. from-derived i x h) (λ x. from-own i x) (order (length (ownIn T)) i)
 
-    as-chained : ((s : ℕ) → s < length (T States) → climb (edgesIn T) (λ i. at T Edges i edNext) s (at T States s stFirst) (at T States s stLast) (at T States s stCount) ≡ true) × (sum (length (T States)) (λ s. size (at T States s stCount)) ≡ length (edgesIn T))
+    as-chained : ((s : ℕ) → s < length (T States) → climb (length (edgesIn T)) (sources (edgesIn T)) (λ i. at T Edges i edNext) s (at T States s stFirst) (at T States s stLast) (at T States s stCount) ≡ true) × (sum (length (T States)) (λ s. size (at T States s stCount)) ≡ length (edgesIn T))
     as-chained =
         climbs-exactly (length (T States)) (edgesIn T) (λ s. at T States s stFirst) (λ s. at T States s stLast) (λ s. at T States s stCount) (λ i. at T Edges i edNext)
         (λ i h. subst (λ (e : Edge). e .source < length (T States)) (sym (edge-at i)) (from-listed i (omega (arith, map-long edgeBack (T Edges)))))

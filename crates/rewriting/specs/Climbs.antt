@@ -29,17 +29,20 @@ edgeAt es i = getD es i (edgeOf 0 0 0 (pos 0) (pos 0) (pos 0))
 -- ---- the walk
 
 -- `left` edges of the state s, from the edge e on and none below `low`; the one before them was `before`, the last is `end`.
--- nxt is the next edge's word.
-unfoldable pub climbs : List Edge → (ℕ → ℤ) → ℕ → ℤ → ℕ → ℕ → ℤ → ℤ → Bool
-climbs es nxt s end zero low e before = same e none && same end before
-climbs es nxt s end (suc k) low (pos j) before =
-    let on = climbs es nxt s end k (j + 1) (nxt j) (pos j) in
-    leb low j && ltb j (length es) && eqb (edgeAt es j .source) s && on
-climbs es nxt s end (suc k) low (negsuc j) before = false
+-- There are m edges; src is an edge's source, nxt its next edge's word.
+unfoldable pub climbs : ℕ → (ℕ → ℕ) → (ℕ → ℤ) → ℕ → ℤ → ℕ → ℕ → ℤ → ℤ → Bool
+climbs m src nxt s end zero low e before = same e none && same end before
+climbs m src nxt s end (suc k) low (pos j) before =
+    let on = climbs m src nxt s end k (j + 1) (nxt j) (pos j) in
+    leb low j && ltb j m && eqb (src j) s && on
+climbs m src nxt s end (suc k) low (negsuc j) before = false
 
 -- The state's words: first edge, last edge, edge count.
-unfoldable pub climb : List Edge → (ℕ → ℤ) → ℕ → ℤ → ℤ → ℤ → Bool
-climb es nxt s start end count = natural count && climbs es nxt s end (size count) 0 start none
+abbrev pub climb : ℕ → (ℕ → ℕ) → (ℕ → ℤ) → ℕ → ℤ → ℤ → ℤ → Bool
+climb m src nxt s start end count = natural count && climbs m src nxt s end (size count) 0 start none
+
+abbrev pub sources : List Edge → ℕ → ℕ
+sources es j = edgeAt es j .source
 
 -- ---- ascending lists
 
@@ -126,7 +129,7 @@ module _ (es : List Edge) (nxt : ℕ → ℤ) (s : ℕ) (end : ℤ) where
     starts : e ≡ first l
     ends : end ≡ lastOr before l
 
-  walked : (k low : ℕ) (e before : ℤ) → climbs es nxt s end k low e before ≡ true → Walked k low e before (followed k e)
+  walked : (k low : ℕ) (e before : ℤ) → climbs (length es) (sources es) nxt s end k low e before ≡ true → Walked k low e before (followed k e)
   unfolding climbs
   walked zero low e before h =
       record {
@@ -141,7 +144,7 @@ module _ (es : List Edge) (nxt : ℕ → ℤ) (s : ℕ) (end : ℤ) where
       let a = leb low j in
       let b = ltb j (length es) in
       let c = eqb (edgeAt es j .source) s in
-      let on = climbs es nxt s end k (j + 1) (nxt j) (pos j) in
+      let on = climbs (length es) (sources es) nxt s end k (j + 1) (nxt j) (pos j) in
       let w = walked k (j + 1) (nxt j) (pos j) (right (a && b && c) on h) in
       let h3 = left (a && b && c) on h in
       let h2 = left (a && b) c h3 in
@@ -156,13 +159,13 @@ module _ (es : List Edge) (nxt : ℕ → ℤ) (s : ℕ) (end : ℤ) where
       }
   walked (suc k) low (negsuc j) before h = lie h
 
-  walks : (l : List ℕ) (low : ℕ) (e before : ℤ) → Walked (length l) low e before l → climbs es nxt s end (length l) low e before ≡ true
+  walks : (l : List ℕ) (low : ℕ) (e before : ℤ) → Walked (length l) low e before l → climbs (length es) (sources es) nxt s end (length l) low e before ≡ true
   unfolding climbs
   walks [] low e before w = both (subst (λ (z : ℤ). same z none ≡ true) (sym (w .starts)) refl) (subst (λ (z : ℤ). same z before ≡ true) (sym (w .ends)) (same-self before))
   walks (j ∷ l) low e before w =
       let f = w .here j (inl refl) in
       let on = walks l (j + 1) (nxt j) (pos j) (record { long = refl; up = w .up .1; here = λ i m. w .here i (inr m); consec = w .consec .1; starts = w .consec .0; ends = w .ends }) in
-      subst (λ (z : ℤ). climbs es nxt s end (suc (length l)) low z before ≡ true) (sym (w .starts))
+      subst (λ (z : ℤ). climbs (length es) (sources es) nxt s end (suc (length l)) low z before ≡ true) (sym (w .starts))
       (both (both (both (le-leb low j (w .up .0)) (lt-ltb j (length es) (f .0))) (eq-eqb (edgeAt es j .source) s (f .1))) on)
 
 -- ---- all edges have a source
@@ -222,16 +225,15 @@ pub record Chained (n : ℕ) (es : List Edge) (starts ends counts nxt : ℕ → 
   pub next-edge : (i : ℕ) → i < length es → nxt i ≡ next es (edgeAt es i .source) i
 
 module _ (n : ℕ) (es : List Edge) (starts ends counts nxt : ℕ → ℤ) (listed : (i : ℕ) → i < length es → edgeAt es i .source < n) where
-  pub climbs-exactly : ((s : ℕ) → s < n → climb es nxt s (starts s) (ends s) (counts s) ≡ true) × (sum n (λ s. size (counts s)) ≡ length es) ↔ Chained n es starts ends counts nxt
-  unfolding climb
+  pub climbs-exactly : ((s : ℕ) → s < n → climb (length es) (sources es) nxt s (starts s) (ends s) (counts s) ≡ true) × (sum n (λ s. size (counts s)) ≡ length es) ↔ Chained n es starts ends counts nxt
   climbs-exactly = (to, fro)
     where
-      to : ((s : ℕ) → s < n → climb es nxt s (starts s) (ends s) (counts s) ≡ true) × (sum n (λ s. size (counts s)) ≡ length es) → Chained n es starts ends counts nxt
+      to : ((s : ℕ) → s < n → climb (length es) (sources es) nxt s (starts s) (ends s) (counts s) ≡ true) × (sum n (λ s. size (counts s)) ≡ length es) → Chained n es starts ends counts nxt
       to h =
           record {
             first-edge = λ s k. w s k .starts ∙ ap first (all s k);
             last-edge = λ s k. w s k .ends ∙ sym (last-none (l s)) ∙ ap last (all s k);
-            edge-count = λ s k. sym (natural-size (counts s) (left (natural (counts s)) (climbs es nxt s (ends s) (size (counts s)) 0 (starts s) none) (h .0 s k))) ∙ ap pos (sym (w s k .long) ∙ ap length (all s k));
+            edge-count = λ s k. sym (natural-size (counts s) (left (natural (counts s)) (climbs (length es) (sources es) nxt s (ends s) (size (counts s)) 0 (starts s) none) (h .0 s k))) ∙ ap pos (sym (w s k .long) ∙ ap length (all s k));
             next-edge = λ i k.
                 let s = edgeAt es i .source in
                 let m : Mem i (chain es (edgeAt es i .source)) = chain-are es (edgeAt es i .source) i .1 (k, refl) in
@@ -242,7 +244,7 @@ module _ (n : ℕ) (es : List Edge) (starts ends counts nxt : ℕ → ℤ) (list
           l s = followed es nxt s (ends s) (size (counts s)) (starts s)
 
           w : (s : ℕ) → s < n → Walked es nxt s (ends s) (size (counts s)) 0 (starts s) none (l s)
-          w s k = walked es nxt s (ends s) (size (counts s)) 0 (starts s) none (right (natural (counts s)) (climbs es nxt s (ends s) (size (counts s)) 0 (starts s) none) (h .0 s k))
+          w s k = walked es nxt s (ends s) (size (counts s)) 0 (starts s) none (right (natural (counts s)) (climbs (length es) (sources es) nxt s (ends s) (size (counts s)) 0 (starts s) none) (h .0 s k))
 
           part : (s : ℕ) (k : s < n) → (length (l s) ≤ length (chain es s)) × (length (l s) ≡ length (chain es s) → l s ≡ chain es s)
           part s k = sub 0 (l s) (chain es s) (w s k .up) (chain-up es s) (λ j m. chain-are es s j .1 (w s k .here j m))
@@ -252,12 +254,12 @@ module _ (n : ℕ) (es : List Edge) (starts ends counts nxt : ℕ → ℤ) (list
               part s k .1
               (sum-same n (λ s. length (l s)) (λ s. length (chain es s)) (λ s k. part s k .0) (sum-of n (λ s. length (l s)) (λ s. size (counts s)) (λ s k. w s k .long) ∙ h .1 ∙ sym (chains-sum n 0 es listed)) s k)
 
-      fro : Chained n es starts ends counts nxt → ((s : ℕ) → s < n → climb es nxt s (starts s) (ends s) (counts s) ≡ true) × (sum n (λ s. size (counts s)) ≡ length es)
+      fro : Chained n es starts ends counts nxt → ((s : ℕ) → s < n → climb (length es) (sources es) nxt s (starts s) (ends s) (counts s) ≡ true) × (sum n (λ s. size (counts s)) ≡ length es)
       fro c = (one, sum-of n (λ s. size (counts s)) (λ s. length (chain es s)) (λ s k. ap size (c .edge-count s k)) ∙ chains-sum n 0 es listed)
         where
-          one : (s : ℕ) → s < n → climb es nxt s (starts s) (ends s) (counts s) ≡ true
+          one : (s : ℕ) → s < n → climb (length es) (sources es) nxt s (starts s) (ends s) (counts s) ≡ true
           one s k =
-              subst (λ (z : ℤ). (natural z && climbs es nxt s (ends s) (size z) 0 (starts s) none) ≡ true) (sym (c .edge-count s k))
+              subst (λ (z : ℤ). (natural z && climbs (length es) (sources es) nxt s (ends s) (size z) 0 (starts s) none) ≡ true) (sym (c .edge-count s k))
               (walks es nxt s (ends s) (chain es s) 0 (starts s) none
               (record {
                 long = refl;

@@ -11,6 +11,7 @@ pub mod Laws
 pub mod Found
 -- Refusal 15 as tests of the tables
 pub mod Passes
+pub mod All
 pub mod Fine
 pub mod Climbs
 pub mod Checks

@@ -23,6 +23,9 @@ mod records;
 mod states;
 mod stops;
 
+// The rules' stops by themselves: what is written from tables is held to them.
+pub use stops::find_stops;
+
 // The sections that fill one table each.
 pub enum Section {
     States,

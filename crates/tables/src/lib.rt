@@ -5,6 +5,7 @@ ghost use mathlib.Core.Path.{_≡_};
 ghost use Prim.Native.Nat.{_+_, _*_, _<_, _≤_, _^_};
 ghost use lib.IntN.{pos};
 ghost use lib.ListN.{length, getD, set};
+ghost use Rattle.format.specs.Sections.{same, size};
 ghost use Rattle.format.specs.Tables.{rowAt, zeros};
 ghost use Rattle.tables.specs.Words.{spot, numberAt};
 
@@ -20,10 +21,17 @@ pub fn clear(t: &mut [i32])
 }
 
 // A word as a record's number. "None" is -1: a number that no table has a record for.
-fn spot_of(z: i32) -> usize
+pub fn spot_of(z: i32) -> usize
     ensures { λ r. ⌜ r ≡ spot z ⌝ }
 {
     if z < 0 { 4294967295 } else { z as usize }
+}
+
+// Whether two words are the same.
+pub fn equal(a: i32, b: i32) -> bool
+    ensures { λ r. ⌜ r ≡ same a b ⌝ }
+{
+    a == b
 }
 
 // Word i, as a record's number.
@@ -32,6 +40,15 @@ pub fn number_at(t: &[i32], i: usize) -> usize
     ensures { λ r. ⌜ r ≡ numberAt (now (t .entry)) i ⌝ }
 {
     spot_of(t[i])
+}
+
+// Word i's size: 0 for a negative word.
+pub fn size_at(t: &[i32], i: usize) -> usize
+    requires { ⌜ i < length (now t) ⌝ }
+    ensures { λ r. ⌜ (r ≡ size (getD (now (t .entry)) i (pos 0))) × (r < 2 ^ 31) ⌝ }
+{
+    let z = t[i];
+    if z < 0 { 0 } else { z as usize }
 }
 
 // Record i, of so many words.
