@@ -36,14 +36,13 @@ flag4 x = among (cellSize x stFlags) (4 ∷ 5 ∷ 6 ∷ 7 ∷ [])
 abbrev pub row : (Table → List (List ℤ)) → Table → ℕ → List ℤ
 row T t i = getD (T t) i []
 
--- The states, the edges and the rules fit together; o edges are not derived. Marks and flag 4 are tested afterwards.
-pub record Wired (T : Table → List (List ℤ)) (o : ℕ) : Type 0 where
+-- The states, the edges and the rules fit together, whichever edges are derived. Marks and flag 4 are tested afterwards.
+pub record Joined (T : Table → List (List ℤ)) : Type 0 where
   -- no table has more than the most room
   pub few : (t : Table) → length (T t) ≤ 65536
   -- the states: type, links, flags
   pub states : (s : ℕ) → s < length (T States) → stateFine (row T States s) ≡ true
   -- the edges: numbers, a listed source, and p, q and r by the type
-  pub within : o ≤ length (T Edges)
   pub edges : (i : ℕ) → i < length (T Edges) → edgeFine (length (T States)) (row T Edges i) ≡ true
   pub arguments : (i : ℕ) → i < length (T Edges) → argsRead (length (T Sets)) (edgeBack (row T Edges i)) ≡ true
   -- the chains
@@ -52,7 +51,11 @@ pub record Wired (T : Table → List (List ℤ)) (o : ℕ) : Type 0 where
   -- the rules
   pub starts : (R : ℕ) → R < length (T Rules) → natural (at T Rules R ruStart) ≡ true
   pub stops : (R : ℕ) → R < length (T Rules) → at T Rules R ruStop ≡ stopOf (statesIn T) (pos R)
-  -- the derived edges
+
+-- And the edges from o on are the derived ones.
+pub record Wired (T : Table → List (List ℤ)) (o : ℕ) : Type 0 where
+  pub joined : Joined T
+  pub within : o ≤ length (T Edges)
   pub derived : derived (statesIn T) (rulesOf T) (take o (edgesIn T)) ≡ drop o (edgesIn T)
 
 pub record Checked (T : Table → List (List ℤ)) (o : ℕ) : Type 0 where
@@ -193,7 +196,7 @@ module _ (T : Table → List (List ℤ)) (token : ℤ) where
   derived-one : (v : ℤ) → v ≡ pos 1 → not (same v (pos 1)) ≡ false
   derived-one v e = ap (λ (z : ℤ). not (same z (pos 1))) e
 
-  module _ (o : ℕ) (w : Wired T o) where
+  module _ (w : Joined T) where
     pub edge-tests : (i : ℕ) → i < length (T Edges) → (natural (at T Edges i edKind) ≡ true) × (natural (at T Edges i edSource) ≡ true) × (natural (at T Edges i edTarget) ≡ true) × (cellSize (row T Edges i) edSource < length (T States))
     edge-tests i h =
         let k = natural (at T Edges i edKind) in
@@ -229,7 +232,7 @@ module _ (T : Table → List (List ℤ)) (token : ℤ) where
         (λ j. q j ++ derived (statesIn T) (rulesOf T) (q j)) ∙ ap (λ (z : List Edge). take o (edgesIn T) ++ z) (c .wired .derived) ∙ take-append-drop o (edgesIn T)
 
     own-read : (i : ℕ) → i < o → edgeRead (length (T States)) (length (T Sets)) (edgeBack (row T Edges i)) ≡ true
-    own-read i h = both (lt-ltb (cellSize (row T Edges i) edSource) (length (T States)) (edge-tests o (c .wired) i (omega (arith, c .wired .within)) .3)) (c .wired .arguments i (omega (arith, c .wired .within)))
+    own-read i h = both (lt-ltb (cellSize (row T Edges i) edSource) (length (T States)) (edge-tests (c .wired .joined) i (omega (arith, c .wired .within)) .3)) (c .wired .joined .arguments i (omega (arith, c .wired .within)))
 
     edges-read : every (edgeRead (length (T States)) (length (T Sets))) (ownIn T) ≡ true
     edges-read =
@@ -243,7 +246,7 @@ module _ (T : Table → List (List ℤ)) (token : ℤ) where
     unfolding recovered
     is-read =
         record {
-          states = all-map stateRead stateBack (T States) (λ s h. state-tests o (c .wired) s h .1);
+          states = all-map stateRead stateBack (T States) (λ s h. state-tests (c .wired .joined) s h .1);
           ones = numbers-listed flag1 0 (length (statesIn T)) (T States) (omega (arith, map-long stateBack (T States)));
           twos = numbers-listed flag2 0 (length (statesIn T)) (T States) (omega (arith, map-long stateBack (T States)));
           sets = c .kept;
@@ -261,14 +264,14 @@ module _ (T : Table → List (List ℤ)) (token : ℤ) where
     unfolding recovered
     is-few =
         record {
-          states = omega (arith, map-long stateBack (T States), c .wired .few States);
-          edges = omega (arith, length-append (ownIn T) (derived (statesIn T) (rulesOf T) (ownIn T)), ap length in-order, map-long edgeBack (T Edges), c .wired .few Edges);
-          ranges = omega (arith, ap length set-cuts, map-long rangeBack (T Ranges), c .wired .few Ranges);
-          sets = omega (arith, cuts-long (map rangeBack (T Ranges)) (counts (T Sets)), map-long (λ x. cellSize x seCount) (T Sets), c .wired .few Sets);
-          rules = omega (arith, map-long ruleBack (T Rules), c .wired .few Rules);
-          modes = omega (arith, map-long stateNamed (T Modes), c .wired .few Modes);
-          decisions = omega (arith, map-long stateNamed (T Decisions), c .wired .few Decisions);
-          actions = omega (arith, map-long actionBack (T Actions), c .wired .few Actions);
+          states = omega (arith, map-long stateBack (T States), c .wired .joined .few States);
+          edges = omega (arith, length-append (ownIn T) (derived (statesIn T) (rulesOf T) (ownIn T)), ap length in-order, map-long edgeBack (T Edges), c .wired .joined .few Edges);
+          ranges = omega (arith, ap length set-cuts, map-long rangeBack (T Ranges), c .wired .joined .few Ranges);
+          sets = omega (arith, cuts-long (map rangeBack (T Ranges)) (counts (T Sets)), map-long (λ x. cellSize x seCount) (T Sets), c .wired .joined .few Sets);
+          rules = omega (arith, map-long ruleBack (T Rules), c .wired .joined .few Rules);
+          modes = omega (arith, map-long stateNamed (T Modes), c .wired .joined .few Modes);
+          decisions = omega (arith, map-long stateNamed (T Decisions), c .wired .joined .few Decisions);
+          actions = omega (arith, map-long actionBack (T Actions), c .wired .joined .few Actions);
         }
 
     mark-is : (i : ℕ) → i < length (T Edges) → at T Edges i edMark ≡ pos (pick (ltb i (length (ownIn T))) (2 * bit (tail (statesIn T) (rulesOf T) (edgesIn T) (edgeBack (row T Edges i)))) 1)
@@ -284,25 +287,25 @@ module _ (T : Table → List (List ℤ)) (token : ℤ) where
           roomed = is-few;
           order = in-order;
           states = λ s h.
-              let x = state-tests o (c .wired) s h in
+              let x = state-tests (c .wired .joined) s h in
               record {
                 kind = x .0;
                 flags = three-is (at T States s stFlags) (x .2) ∙ ap (λ (t : Bool). pos (bit (flag1 (row T States s)) + 2 * bit (flag2 (row T States s)) + 4 * bit t)) (c .decides s h);
-                starts = chained o (c .wired) .first-edge s h;
-                ends = chained o (c .wired) .last-edge s h;
-                count = chained o (c .wired) .edge-count s h;
+                starts = chained (c .wired .joined) .first-edge s h;
+                ends = chained (c .wired .joined) .last-edge s h;
+                count = chained (c .wired .joined) .edge-count s h;
               };
           edges = λ i h.
-              let x = edge-tests o (c .wired) i h in
+              let x = edge-tests (c .wired .joined) i h in
               record {
                 kind = x .0;
                 source = x .1;
                 target = x .2;
                 mark = mark-is i h;
-                onward = chained o (c .wired) .next-edge i (omega (arith, map-long edgeBack (T Edges))) ∙ ap (λ (e : Edge). next (edgesIn T) (e .source) i) (edge-at i);
+                onward = chained (c .wired .joined) .next-edge i (omega (arith, map-long edgeBack (T Edges))) ∙ ap (λ (e : Edge). next (edgesIn T) (e .source) i) (edge-at i);
               };
           sets = c .sets;
-          rules = λ R h. record { start = c .wired .starts R h; stop = c .wired .stops R h };
+          rules = λ R h. record { start = c .wired .joined .starts R h; stop = c .wired .joined .stops R h };
           modes = c .modes;
           decisions = c .decisions;
           actions = λ i h. left (natural (at T Actions i acKind)) (actionRead (actionBack (row T Actions i))) (c .actions i h);
@@ -411,15 +414,18 @@ module _ (T : Table → List (List ℤ)) (token : ℤ) where
         record {
           wired =
               record {
-                few = all-few;
-                states = λ s h. both (both (f .states s h .kind) (map-all stateRead stateBack (T States) (f .formed .states) s h)) (flags-made s h .0);
+                joined =
+                    record {
+                      few = all-few;
+                      states = λ s h. both (both (f .states s h .kind) (map-all stateRead stateBack (T States) (f .formed .states) s h)) (flags-made s h .0);
+                      edges = λ i h. let e = f .edges i h in both (both (e .kind) (listed-names (length (T States)) (at T Edges i edSource) (e .source) (from-listed i h))) (e .target);
+                      arguments = all-read;
+                      climbs = as-chained .0;
+                      counted = as-chained .1 ∙ map-long edgeBack (T Edges);
+                      starts = λ R h. f .rules R h .start;
+                      stops = λ R h. f .rules R h .stop;
+                    };
                 within = few-own;
-                edges = λ i h. let e = f .edges i h in both (both (e .kind) (listed-names (length (T States)) (at T Edges i edSource) (e .source) (from-listed i h))) (e .target);
-                arguments = all-read;
-                climbs = as-chained .0;
-                counted = as-chained .1 ∙ map-long edgeBack (T Edges);
-                starts = λ R h. f .rules R h .start;
-                stops = λ R h. f .rules R h .stop;
                 derived = then-derived;
               };
           marks = mark-own;

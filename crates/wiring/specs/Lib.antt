@@ -4,3 +4,7 @@ pub mod Stops
 pub mod Returns
 pub mod Marks
 pub mod Decisions
+-- What they come to
+pub mod Given
+pub mod Linked
+pub mod Words
