@@ -2,7 +2,7 @@
 -- state, and are as many as are counted; and all states' counts together are all edges. So no edge was missed.
 use mathlib.Core.Path.{_≡_, refl, sym, ap, _∙_, subst}
 use mathlib.Core.List.{List, [], _∷_}
-use mathlib.Core.Bool.{Bool, true, false, _&&_}
+use mathlib.Core.Bool.{Bool, true, false, _&&_, and-false}
 use mathlib.Core.Logic.{inl, inr, ⊎-elim, _↔_}
 use Prim.Native.Nat.{ℕ, zero, suc, _+_, _≤_, _<_}
 use native.Mathlib.Omega.{arith}
@@ -43,6 +43,22 @@ climb m src nxt s start end count = natural count && climbs m src nxt s end (siz
 
 abbrev pub sources : List Edge → ℕ → ℕ
 sources es j = edgeAt es j .source
+
+-- two edge tables that agree below m
+module _ (m : ℕ) (src src′ : ℕ → ℕ) (nxt nxt′ : ℕ → ℤ) (same-source : (j : ℕ) → j < m → src j ≡ src′ j) (same-next : (j : ℕ) → j < m → nxt j ≡ nxt′ j) (s : ℕ) (end : ℤ) where
+  pub climbs-same : (k low : ℕ) (e before : ℤ) → climbs m src nxt s end k low e before ≡ climbs m src′ nxt′ s end k low e before
+  unfolding climbs
+  climbs-same zero low e before = refl
+  climbs-same (suc k) low (negsuc j) before = refl
+  climbs-same (suc k) low (pos j) before = go (ltb j m) refl (climbs-same k (j + 1) (nxt′ j) (pos j))
+    where
+      go : (b : Bool) → ltb j m ≡ b → climbs m src nxt s end k (j + 1) (nxt′ j) (pos j) ≡ climbs m src′ nxt′ s end k (j + 1) (nxt′ j) (pos j)
+          → (leb low j && b && eqb (src j) s && climbs m src nxt s end k (j + 1) (nxt j) (pos j)) ≡ (leb low j && b && eqb (src′ j) s && climbs m src′ nxt′ s end k (j + 1) (nxt′ j) (pos j))
+      go false h ih = rw (and-false (leb low j)) refl
+      go true h ih =
+          let l = ltb-true j m h in
+          let on = ap (λ (v : ℤ). climbs m src nxt s end k (j + 1) v (pos j)) (same-next j l) ∙ ih in
+          λ i. leb low j && true && eqb (same-source j l i) s && on i
 
 -- ---- ascending lists
 

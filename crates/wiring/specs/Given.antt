@@ -1,14 +1,19 @@
 -- The records that the lent tables hold, and their words.
 use mathlib.Core.Path.{_≡_, refl, sym, ap, _∙_}
 use mathlib.Core.List.{List, [], _∷_}
+use mathlib.Core.Bool.{true}
 use Prim.Native.Nat.{ℕ, zero, suc, _+_, _*_, _<_}
 use native.Mathlib.Omega.{arith}
-use lib.IntN.{ℤ, pos}
+use lib.IntN.{ℤ, pos, negsuc}
 use lib.ListN.{length, getD, List·getD-map}
 use Rattle.format.specs.Reading.{Table, States, Edges, Rules}
+use Rattle.format.specs.Sections.{size}
 use Rattle.format.specs.Links.{stateAt}
-use Rattle.format.specs.Writing.{cell, stateBack, edgeBack, ruleBack, rowsOf, given}
+use Rattle.format.specs.Writing.{cell, cellSize, stateBack, edgeBack, ruleBack, rowsOf, given}
 use Rattle.atn.specs.Records.{noState, edgeAt}
+use Rattle.tables.specs.Words.{spot, numberAt}
+use Rattle.rewriting.specs.Formed.{natural}
+use Rattle.rewriting.specs.Tests.{lie}
 use Rattle.rewriting.specs.Fine.{statesIn, edgesIn, rulesOf, at, map-long}
 use Rattle.rewriting.specs.Checks.{row}
 use Rattle.rewriting.specs.Flat.{rows-long, rows-at, row-word}
@@ -59,3 +64,11 @@ module _ (tables : Table → List ℤ) (counts : Table → ℕ) where
 
   pub rule-word : (R p : ℕ) → R < counts Rules → p < 3 → getD (tables Rules) (3 * R + p) (pos 0) ≡ at T Rules R p
   rule-word R p = word-at 3 (counts Rules) (tables Rules) R p
+
+  -- an edge's word as a record's number
+  pub edge-number : (i p : ℕ) → i < counts Edges → p < 8 → natural (at T Edges i p) ≡ true → numberAt (tables Edges) (8 * i + p) ≡ cellSize (row T Edges i) p
+  edge-number i p h k e = ap spot (edge-word i p h k) ∙ go (at T Edges i p) e
+    where
+      go : (z : ℤ) → natural z ≡ true → spot z ≡ size z
+      go (pos n) e = refl
+      go (negsuc n) e = lie e

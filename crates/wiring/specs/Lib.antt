@@ -1,10 +1,11 @@
--- The tests of this crate, as they read the lent words.
+-- The tests of this crate, as they read the lent words, and what they say of the records that the tables hold.
+pub mod Given
 pub mod Chains
 pub mod Stops
 pub mod Returns
 pub mod Marks
 pub mod Decisions
--- What they come to
-pub mod Given
 pub mod Linked
 pub mod Words
+pub mod Met
+pub mod Marked

@@ -41,52 +41,52 @@ module _ (tables : Table → List ℤ) (counts : Table → ℕ) (l : Lie tables 
     listed-edge : (i : ℕ) → i < counts Edges → i < length (T Edges)
     listed-edge i k = omega (arith, rows-edges tables counts)
 
+    pub held : Held (statesIn T) (edgesIn T) (counts States) (counts Edges) (tables States) (tables Edges)
+    held =
+        record {
+          all-states = states-long tables counts;
+          all-edges = edges-long tables counts;
+          few-states = omega (arith, w .few States, rows-states tables counts);
+          few-edges = omega (arith, w .few Edges, rows-edges tables counts);
+          states-long = l .states;
+          edges-long = l .edges;
+          states = λ s k.
+              let a = state-is tables counts s k in
+              let x = state-tests T (pos 0) w s (listed-state s k) in
+              let z : 8 * s ≡ 8 * s + 0 = omega arith in
+              record {
+                kind = ap (λ (j : ℕ). getD (tables States) j (pos 0)) z ∙ state-word tables counts s stKind k (omega arith) ∙ sym (natural-size (at T States s stKind) (x .0)) ∙ ap (λ (y : State). pos (y .kind)) (sym a);
+                rule = state-word tables counts s stRule k (omega arith) ∙ ap (λ (y : State). y .rule) (sym a);
+                end = state-word tables counts s stEnd k (omega arith) ∙ ap (λ (y : State). y .end) (sym a);
+                back = state-word tables counts s stBack k (omega arith) ∙ ap (λ (y : State). y .back) (sym a);
+                starts = state-word tables counts s stFirst k (omega arith) ∙ C .first-edge s (listed-state s k);
+                count = state-word tables counts s stCount k (omega arith) ∙ C .edge-count s (listed-state s k);
+              };
+          edges = λ i k.
+              let a = edge-is tables counts i in
+              let x = edge-tests T (pos 0) w i (listed-edge i k) in
+              let z : 8 * i ≡ 8 * i + 0 = omega arith in
+              record {
+                kind = ap (λ (j : ℕ). getD (tables Edges) j (pos 0)) z ∙ edge-word tables counts i edKind k (omega arith) ∙ sym (natural-size (at T Edges i edKind) (x .0)) ∙ ap (λ (y : Edge). pos (y .kind)) (sym a);
+                source = edge-word tables counts i edSource k (omega arith) ∙ sym (natural-size (at T Edges i edSource) (x .1)) ∙ ap (λ (y : Edge). pos (y .source)) (sym a);
+                target = edge-word tables counts i edTarget k (omega arith) ∙ sym (natural-size (at T Edges i edTarget) (x .2)) ∙ ap (λ (y : Edge). pos (y .target)) (sym a);
+                p = edge-word tables counts i edP k (omega arith) ∙ ap (λ (y : Edge). y .p) (sym a);
+                q = edge-word tables counts i edQ k (omega arith) ∙ ap (λ (y : Edge). y .q) (sym a);
+                r = edge-word tables counts i edR k (omega arith) ∙ ap (λ (y : Edge). y .r) (sym a);
+                onward = edge-word tables counts i edNext k (omega arith) ∙ C .next-edge i (omega (arith, edges-long tables counts));
+                listed = subst (λ (y : Edge). y .source < counts States) (sym a) (omega (arith, x .3, rows-states tables counts));
+                follow = subst (λ (y : Edge). y .kind ≡ 3 → y .q ≡ pos (size (y .q))) (sym a)
+                    (λ e. rule-follow (length (T Sets)) (edgeBack (row T Edges i)) (w .arguments i (listed-edge i k)) e);
+              };
+        }
+
+    stops : Stops (statesIn T) (counts Rules) (tables Rules)
+    stops =
+        record {
+          few-rules = omega (arith, w .few Rules, rows-rules tables counts);
+          rules-long = l .rules;
+          stops-at = λ R k. rule-word tables counts R ruStop k (omega arith) ∙ w .stops R (omega (arith, rows-rules tables counts));
+        }
+
     pub linked : Linked (tables States) (tables Edges) (tables Rules) (counts States) (counts Edges) (counts Rules)
     linked = linked-of held stops
-      where
-        held : Held (statesIn T) (edgesIn T) (counts States) (counts Edges) (tables States) (tables Edges)
-        held =
-            record {
-              all-states = states-long tables counts;
-              all-edges = edges-long tables counts;
-              few-states = omega (arith, w .few States, rows-states tables counts);
-              few-edges = omega (arith, w .few Edges, rows-edges tables counts);
-              states-long = l .states;
-              edges-long = l .edges;
-              states = λ s k.
-                  let a = state-is tables counts s k in
-                  let x = state-tests T (pos 0) w s (listed-state s k) in
-                  let z : 8 * s ≡ 8 * s + 0 = omega arith in
-                  record {
-                    kind = ap (λ (j : ℕ). getD (tables States) j (pos 0)) z ∙ state-word tables counts s stKind k (omega arith) ∙ sym (natural-size (at T States s stKind) (x .0)) ∙ ap (λ (y : State). pos (y .kind)) (sym a);
-                    rule = state-word tables counts s stRule k (omega arith) ∙ ap (λ (y : State). y .rule) (sym a);
-                    end = state-word tables counts s stEnd k (omega arith) ∙ ap (λ (y : State). y .end) (sym a);
-                    back = state-word tables counts s stBack k (omega arith) ∙ ap (λ (y : State). y .back) (sym a);
-                    starts = state-word tables counts s stFirst k (omega arith) ∙ C .first-edge s (listed-state s k);
-                    count = state-word tables counts s stCount k (omega arith) ∙ C .edge-count s (listed-state s k);
-                  };
-              edges = λ i k.
-                  let a = edge-is tables counts i in
-                  let x = edge-tests T (pos 0) w i (listed-edge i k) in
-                  let z : 8 * i ≡ 8 * i + 0 = omega arith in
-                  record {
-                    kind = ap (λ (j : ℕ). getD (tables Edges) j (pos 0)) z ∙ edge-word tables counts i edKind k (omega arith) ∙ sym (natural-size (at T Edges i edKind) (x .0)) ∙ ap (λ (y : Edge). pos (y .kind)) (sym a);
-                    source = edge-word tables counts i edSource k (omega arith) ∙ sym (natural-size (at T Edges i edSource) (x .1)) ∙ ap (λ (y : Edge). pos (y .source)) (sym a);
-                    target = edge-word tables counts i edTarget k (omega arith) ∙ sym (natural-size (at T Edges i edTarget) (x .2)) ∙ ap (λ (y : Edge). pos (y .target)) (sym a);
-                    p = edge-word tables counts i edP k (omega arith) ∙ ap (λ (y : Edge). y .p) (sym a);
-                    q = edge-word tables counts i edQ k (omega arith) ∙ ap (λ (y : Edge). y .q) (sym a);
-                    r = edge-word tables counts i edR k (omega arith) ∙ ap (λ (y : Edge). y .r) (sym a);
-                    onward = edge-word tables counts i edNext k (omega arith) ∙ C .next-edge i (omega (arith, edges-long tables counts));
-                    listed = subst (λ (y : Edge). y .source < counts States) (sym a) (omega (arith, x .3, rows-states tables counts));
-                    follow = subst (λ (y : Edge). y .kind ≡ 3 → y .q ≡ pos (size (y .q))) (sym a)
-                        (λ e. rule-follow (length (T Sets)) (edgeBack (row T Edges i)) (w .arguments i (listed-edge i k)) e);
-                  };
-            }
-
-        stops : Stops (statesIn T) (counts Rules) (tables Rules)
-        stops =
-            record {
-              few-rules = omega (arith, w .few Rules, rows-rules tables counts);
-              rules-long = l .rules;
-              stops-at = λ R k. rule-word tables counts R ruStop k (omega arith) ∙ w .stops R (omega (arith, rows-rules tables counts));
-            }

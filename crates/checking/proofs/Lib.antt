@@ -1,0 +1,3 @@
+-- Lemmas of the functions' proofs.
+pub mod Tested
+mod Types

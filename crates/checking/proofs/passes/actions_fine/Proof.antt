@@ -1,0 +1,53 @@
+-- `passes::actions_fine` meets its contract: the first i actions are fine. Assumes nothing.
+use Prim.Native.Nat.{_-_}
+use native.Mathlib.Omega.{arith}
+use borrow.Author.Needs.{needs}
+use denote.Ref.{now}
+use Rattle.format.specs.Tables.{rowAt}
+use Rattle.rewriting.specs.Passes.{actionFine}
+use Rattle.checking.specs.Pass.{Pass, pass-none, pass-more, pass-not, pass-whole}
+use Rattle.checking.specs.Rows.{row-long}
+use Rattle.checking.proofs.Tested.{row-failed, row-passed}
+use Rattle.checking.proofs.passes.actions_fine.Statement.{statement}
+use Rattle.checking.proofs.passes.actions_fine.Tie as tie
+
+abbrev Inv-loop : tie.InvT-loop
+Inv-loop actions n i₀ i = Pass (λ j. actionFine (rowAt 3 actions j)) n i
+
+abbrev μ-loop : tie.MeasureT-loop
+μ-loop actions n i₀ i = n - i
+
+action-fine-requires : tie.Need-action-fine-requires Inv-loop μ-loop
+action-fine-requires c κs =
+    let l = c .before .before in
+    rw (c .row .ensures) (row-long 3 (now (l .before .args .actions)) (l .loop .i) (omega arith))
+
+returns : tie.Need-returns Inv-loop μ-loop
+returns c =
+    let l = c .before .before .before .before in
+    pass-not (l .loop .inv) (c .before .before .before .loop-test .taken)
+    (row-failed actionFine (c .before .action-fine .ensures) (c .before .before .row .ensures) (c .if1 .taken))
+
+loop-again : tie.Need-loop-again Inv-loop μ-loop
+loop-again c =
+    let l = c .before .before .before .before in
+    pass-more (l .loop .inv) (c .before .before .before .loop-test .taken)
+    (row-passed actionFine (c .before .action-fine .ensures) (c .before .before .row .ensures) (c .if1 .left))
+
+returns-2 : tie.Need-returns-2 Inv-loop μ-loop
+returns-2 c = pass-whole (c .before .loop .inv) (c .loop-test .left)
+
+pub actions-fine-spec : {M : Type 1} → statement M
+actions-fine-spec =
+    tie.close
+    (tie.spec
+    Inv-loop
+    μ-loop
+    (λ c. pass-none)
+    (λ c κs. search needs)
+    action-fine-requires
+    returns
+    (λ c. search needs)
+    (λ c. search needs)
+    loop-again
+    returns-2)
