@@ -103,7 +103,7 @@ map-take g zero l = refl
 map-take g (suc o) [] = refl
 map-take g (suc o) (a ∷ l) = ap (λ z. g a ∷ z) (map-take g o l)
 
-cuts-long : {A : Type 0} (l : List A) (ns : List ℕ) → length (cuts l ns) ≡ length ns
+pub cuts-long : {A : Type 0} (l : List A) (ns : List ℕ) → length (cuts l ns) ≡ length ns
 cuts-long l [] = refl
 cuts-long l (n ∷ ns) = ap suc (cuts-long (drop n l) ns)
 
@@ -226,6 +226,10 @@ module _ (T : Table → List (List ℤ)) (token : ℤ) where
     theirs : (i : ℕ) → o ≤ i → i < length (T Edges) → own (row T Edges i) ≡ false
     theirs i h k = derived-one (at T Edges i edMark) (c .returns i h k)
 
+    -- the edges that are not derived are the first o
+    pub own-first : those own (T Edges) ≡ take o (T Edges)
+    own-first = own-split (T Edges) o (c .wired .within) mine theirs
+
     in-order : ownIn T ++ derived (statesIn T) (rulesOf T) (ownIn T) ≡ edgesIn T
     in-order =
         let q = own-is o (c .wired .within) mine theirs in
@@ -236,7 +240,7 @@ module _ (T : Table → List (List ℤ)) (token : ℤ) where
 
     edges-read : every (edgeRead (length (T States)) (length (T Sets))) (ownIn T) ≡ true
     edges-read =
-        subst (λ (z : List (List ℤ)). every (edgeRead (length (T States)) (length (T Sets))) (map edgeBack z) ≡ true) (sym (own-split (T Edges) o (c .wired .within) mine theirs))
+        subst (λ (z : List (List ℤ)). every (edgeRead (length (T States)) (length (T Sets))) (map edgeBack z) ≡ true) (sym own-first)
         (all-map (edgeRead (length (T States)) (length (T Sets))) edgeBack (take o (T Edges))
         (λ i h.
         let k : i < o = omega (arith, length-take o (T Edges)) in

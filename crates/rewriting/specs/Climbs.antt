@@ -202,7 +202,7 @@ sum-plus : (n : ℕ) (f g : ℕ → ℕ) → sum n (λ s. f s + g s) ≡ sum n f
 sum-plus zero f g = refl
 sum-plus (suc n) f g = omega (arith, sum-plus n f g)
 
-sum-of : (n : ℕ) (f g : ℕ → ℕ) → ((s : ℕ) → s < n → f s ≡ g s) → sum n f ≡ sum n g
+pub sum-of : (n : ℕ) (f g : ℕ → ℕ) → ((s : ℕ) → s < n → f s ≡ g s) → sum n f ≡ sum n g
 sum-of zero f g h = refl
 sum-of (suc n) f g h = omega (arith, sum-of n f g (λ s k. h s (omega arith)), h n (omega arith))
 

@@ -150,7 +150,7 @@ flag-at q X s h = ap (λ (n : ℕ). among n (numbers q X)) (omega arith) ∙ fla
 
 -- ---- sets in a row
 
-row-total : (total b : ℕ) (X : List (List ℤ)) → inRow total b X ≡ true → b ≤ total
+pub row-total : (total b : ℕ) (X : List (List ℤ)) → inRow total b X ≡ true → b ≤ total
 row-total total b [] h = let e = eqb-true b total h in omega arith
 row-total total b (x ∷ X) h =
     let r = right (same (cell x seFirst) (pos b) && natural (cell x seCount)) (inRow total (b + cellSize x seCount) X) h in

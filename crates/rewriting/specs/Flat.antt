@@ -6,6 +6,7 @@ use mathlib.Core.Logic.{_↔_}
 use Prim.Native.Nat.{ℕ, zero, suc, _+_, _*_, _/_, _≤_, _<_}
 use native.Mathlib.Omega.{arith}
 use native.Mathlib.Nat.{mul-suc, mul-zero}
+use native.Mathlib.Numerals.{add-one}
 use lib.Dec.{ltb, eqb}
 use lib.IntN.{ℤ, pos}
 use lib.ListN.{length, getD, take, drop, length-append, length-drop, take-append-drop}
@@ -37,13 +38,42 @@ pub rows-long : (w n : ℕ) (t : List ℤ) → length (rowsOf w n t) ≡ n
 rows-long w zero t = refl
 rows-long w (suc n) t = ap suc (rows-long w n (drop w t))
 
+-- behind the first record
+pub drop-row : (w i : ℕ) (t : List ℤ) → drop (w * i) (drop w t) ≡ drop (w * suc i) t
+drop-row w i t = let e : w + w * i ≡ w * suc i = omega (arith, mul-suc w i) in drop-drop (w * i) w t ∙ ap (λ (k : ℕ). drop k t) e
+
 -- record i of them
 pub rows-at : (w n : ℕ) (t : List ℤ) (i : ℕ) → i < n → getD (rowsOf w n t) i [] ≡ rowAt w t i
 rows-at w zero t i h = absurd (omega arith)
 rows-at w (suc n) t zero h = ap (λ (j : ℕ). take w (drop j t)) (sym (mul-zero w))
 rows-at w (suc n) t (suc i) h =
-    let q : w + w * i ≡ w * suc i = omega (arith, mul-suc w i) in
-    rows-at w n (drop w t) i (omega arith) ∙ ap (take w) (drop-drop (w * i) w t) ∙ ap (λ (j : ℕ). take w (drop j t)) q
+    rows-at w n (drop w t) i (omega arith) ∙ ap (take w) (drop-row w i t)
+
+-- one record more
+rows-suc : (w i : ℕ) (t : List ℤ) → rowsOf w (suc i) t ≡ rowsOf w i t ++ (rowAt w t i ∷ [])
+rows-suc w zero t = rw mul-zero refl
+rows-suc w (suc i) t =
+    ap (λ (l : List (List ℤ)). take w t ∷ l)
+    (rows-suc w i (drop w t) ∙ ap (λ (x : List ℤ). rowsOf w i (drop w t) ++ (take w x ∷ [])) (drop-row w i t))
+
+pub rows-more : (w i : ℕ) (t : List ℤ) → rowsOf w (i + 1) t ≡ rowsOf w i t ++ (rowAt w t i ∷ [])
+rows-more w i t = rw add-one (rows-suc w i t)
+
+-- a part of the records
+rows-front : {A : Type 0} (g : List ℤ → A) (w n m : ℕ) (t : List ℤ) → n ≤ m → take n (map g (rowsOf w m t)) ≡ map g (rowsOf w n t)
+rows-front g w zero m t h = refl
+rows-front g w (suc n) zero t h = absurd (omega arith)
+rows-front g w (suc n) (suc m) t h = ap (λ l. g (take w t) ∷ l) (rows-front g w n m (drop w t) (omega arith))
+
+pub rows-part : {A : Type 0} (g : List ℤ → A) (w b n m : ℕ) (t : List ℤ) → b + n ≤ m → take n (drop b (map g (rowsOf w m t))) ≡ map g (rowsOf w n (drop (w * b) t))
+rows-part g w zero n m t h = rw mul-zero (rows-front g w n m t (omega arith))
+rows-part g w (suc b) n zero t h = absurd (omega arith)
+rows-part g w (suc b) n (suc m) t h = rows-part g w b n m (drop w t) (omega arith) ∙ ap (λ (u : List ℤ). map g (rowsOf w n u)) (drop-row w b t)
+
+pub rows-take : (w n m : ℕ) (t : List ℤ) → n ≤ m → take n (rowsOf w m t) ≡ rowsOf w n t
+rows-take w zero m t h = refl
+rows-take w (suc n) zero t h = absurd (omega arith)
+rows-take w (suc n) (suc m) t h = ap (λ (l : List (List ℤ)). take w t ∷ l) (rows-take w n m (drop w t) (omega arith))
 
 -- its word k
 pub row-word : (w : ℕ) (t : List ℤ) (i k : ℕ) → k < w → cell (rowAt w t i) k ≡ getD t (w * i + k) (pos 0)
@@ -132,7 +162,7 @@ module _ (p : Edge → Bool) where
       go true q = rw (le-ltb i o h) q
       go false q = q
 
-each-map : {A B C : Type 0} (f : B → List C) (g : A → B) (l : List A) → each f (map g l) ≡ each (λ a. f (g a)) l
+pub each-map : {A B C : Type 0} (f : B → List C) (g : A → B) (l : List A) → each f (map g l) ≡ each (λ a. f (g a)) l
 each-map f g [] = refl
 each-map f g (a ∷ l) = ap (λ x. f (g a) ++ x) (each-map f g l)
 

@@ -16,3 +16,4 @@ pub mod Fine
 pub mod Climbs
 pub mod Checks
 pub mod Flat
+pub mod Rowed

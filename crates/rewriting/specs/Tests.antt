@@ -63,6 +63,15 @@ pub or-absent : (v : ℤ) → orAbsent (orNone v) ≡ true
 or-absent (pos n) = refl
 or-absent (negsuc n) = refl
 
+-- six tests
+pub six : (a b c d e g : Bool) → (a && b && c && d && e && g) ≡ true → (a ≡ true) × (b ≡ true) × (c ≡ true) × (d ≡ true) × (e ≡ true) × (g ≡ true)
+six a b c d e g h =
+    let h5 = left (a && b && c && d && e) g h in
+    let h4 = left (a && b && c && d) e h5 in
+    let h3 = left (a && b && c) d h4 in
+    let h2 = left (a && b) c h3 in
+    (left a b h2, right a b h2, right (a && b) c h3, right (a && b && c) d h4, right (a && b && c && d) e h5, right (a && b && c && d && e) g h)
+
 -- ---- tests of tables
 
 pub all-eight : (f : Table → Bool) → ((t : Table) → f t ≡ true) → eight f ≡ true
@@ -71,14 +80,6 @@ all-eight f h = both (both (both (both (both (both (both (h States) (h Edges)) (
 pub eight-all : (f : Table → Bool) → f Scratch ≡ true → eight f ≡ true → (t : Table) → f t ≡ true
 eight-all f z h = go
   where
-    six : (a b c d e g : Bool) → (a && b && c && d && e && g) ≡ true → (a ≡ true) × (b ≡ true) × (c ≡ true) × (d ≡ true) × (e ≡ true) × (g ≡ true)
-    six a b c d e g h =
-        let h5 = left (a && b && c && d && e) g h in
-        let h4 = left (a && b && c && d) e h5 in
-        let h3 = left (a && b && c) d h4 in
-        let h2 = left (a && b) c h3 in
-        (left a b h2, right a b h2, right (a && b) c h3, right (a && b && c) d h4, right (a && b && c && d) e h5, right (a && b && c && d && e) g h)
-
     first : (f States && f Edges && f Ranges && f Sets && f Rules && f Modes && f Decisions) ≡ true
     first = left (f States && f Edges && f Ranges && f Sets && f Rules && f Modes && f Decisions) (f Actions) h
 

@@ -2,7 +2,7 @@
 use mathlib.Core.Path.{_≡_, sym, ap, _∙_, subst}
 use mathlib.Core.List.{List}
 use mathlib.Core.Bool.{true, _&&_}
-use Prim.Native.Nat.{ℕ, _+_, _*_, _<_}
+use Prim.Native.Nat.{ℕ, _+_, _*_, _≤_, _<_}
 use native.Mathlib.Omega.{arith}
 use lib.IntN.{ℤ, pos}
 use lib.ListN.{length, getD}
@@ -18,10 +18,9 @@ use Rattle.rewriting.specs.Tests.{right, natural-size}
 use Rattle.rewriting.specs.Fine.{statesIn, edgesIn, at}
 use Rattle.rewriting.specs.Climbs.{Chained}
 use Rattle.rewriting.specs.Checks.{row, Joined, edge-tests, state-tests, chained}
-use Rattle.rewriting.specs.Flat.{Lie}
 use Rattle.wiring.specs.Given.{rows-states, rows-edges, rows-rules, states-long, edges-long, state-is, edge-is, state-word, edge-word, rule-word}
 
-module _ (tables : Table → List ℤ) (counts : Table → ℕ) (l : Lie tables counts) where
+module _ (tables : Table → List ℤ) (counts : Table → ℕ) (states-lie : 8 * counts States ≤ length (tables States)) (edges-lie : 8 * counts Edges ≤ length (tables Edges)) (rules-lie : 3 * counts Rules ≤ length (tables Rules)) where
   abbrev T : Table → List (List ℤ)
   T = given tables counts
 
@@ -48,8 +47,8 @@ module _ (tables : Table → List ℤ) (counts : Table → ℕ) (l : Lie tables 
           all-edges = edges-long tables counts;
           few-states = omega (arith, w .few States, rows-states tables counts);
           few-edges = omega (arith, w .few Edges, rows-edges tables counts);
-          states-long = l .states;
-          edges-long = l .edges;
+          states-long = states-lie;
+          edges-long = edges-lie;
           states = λ s k.
               let a = state-is tables counts s k in
               let x = state-tests T (pos 0) w s (listed-state s k) in
@@ -84,7 +83,7 @@ module _ (tables : Table → List ℤ) (counts : Table → ℕ) (l : Lie tables 
     stops =
         record {
           few-rules = omega (arith, w .few Rules, rows-rules tables counts);
-          rules-long = l .rules;
+          rules-long = rules-lie;
           stops-at = λ R k. rule-word tables counts R ruStop k (omega arith) ∙ w .stops R (omega (arith, rows-rules tables counts));
         }
 

@@ -68,8 +68,8 @@ module _ (tables : Table → List ℤ) (counts : Table → ℕ) (l : Lie tables 
 
   due-is : (o i : ℕ) → markFor (counts States) (counts Edges) (counts Rules) (tables States) (tables Edges) o i ≡ due o i
   due-is o i =
-      let ss = states-are (held tables counts l w) in
-      let es = edges-are (held tables counts l w) in
+      let ss = states-are (held tables counts (l .states) (l .edges) (l .rules) w) in
+      let es = edges-are (held tables counts (l .states) (l .edges) (l .rules) w) in
       let k = sym (rules-long tables counts) in
       (λ j. pick (ltb i o) (2 * bit (tail (ss j) (k j) (es j) (edgeAt (es j) i))) 1)
       ∙ ap (λ (e : Edge). pick (ltb i o) (2 * bit (tail (statesIn T) (rulesOf T) (edgesIn T) e)) 1) (edge-is tables counts i)

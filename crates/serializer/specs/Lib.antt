@@ -1,0 +1,3 @@
+-- What the whole of a writing comes to.
+pub mod Tests
+pub mod Exactly

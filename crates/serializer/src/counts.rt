@@ -1,0 +1,39 @@
+// The counts of a writing: "a count exceeds its table's whole records", or the most that any room holds.
+
+ghost use mathlib.Core.Path.{_≡_};
+ghost use Prim.Native.Nat.{_/_, _<_};
+ghost use lib.Dec.{leb};
+ghost use lib.ListN.{length};
+ghost use Rattle.format.specs.Tables.{nine};
+ghost use Rattle.serializer.specs.Tests.{fewIn};
+
+// Whether the count is within the table's whole records.
+pub fn fits(table: &[i32], width: usize, count: usize) -> bool
+    requires { ⌜ 0 < width ⌝ }
+    ensures { λ r. ⌜ r ≡ leb count (length (now (table .entry)) / width) ⌝ }
+{
+    count <= table.len() / width
+}
+
+// Whether no count is more than the most room.
+pub fn few(
+    states: usize,
+    edges: usize,
+    ranges: usize,
+    sets: usize,
+    rules: usize,
+    modes: usize,
+    decisions: usize,
+    actions: usize,
+) -> bool
+    ensures { λ r. ⌜ r ≡ fewIn (nine states edges ranges sets rules modes decisions actions 0) ⌝ }
+{
+    (states <= 65536)
+        & (edges <= 65536)
+        & (ranges <= 65536)
+        & (sets <= 65536)
+        & (rules <= 65536)
+        & (modes <= 65536)
+        & (decisions <= 65536)
+        & (actions <= 65536)
+}

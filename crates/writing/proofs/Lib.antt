@@ -1,0 +1,4 @@
+-- Lemmas of the functions' proofs.
+mod Rows
+mod Flags
+mod Cuts
