@@ -1,8 +1,11 @@
 //! Gatehazel's compiled archive held side by side with the Rust that it ports, list by list and word by word. README.md says how to run it.
 
 mod asked;
+mod bases;
+mod damages;
 mod gatehazel;
 mod hold;
+mod judged;
 mod large;
 mod lists;
 mod orders;
@@ -16,6 +19,9 @@ mod shrink;
 mod summary;
 mod told;
 mod walk;
+mod writer;
+mod written;
+mod wrong;
 
 use lists::{dialects, full, hand_built, over_sets, whole};
 use rooms::{Room, USUAL};
@@ -219,6 +225,9 @@ fn compare(run: &mut Run, options: &Options) {
     large::large(run, if options.bounded { 2 } else { Room::others().len() });
     run.begin("questions by rule");
     questions_by_rule(run, options.count / 2);
+    run.begin("tables damaged");
+    judged::by_hand(run);
+    judged::seeded(run, options.count / 20);
     run.begin("seeded lists");
     all_seeded(run, options.count);
 }

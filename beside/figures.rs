@@ -1,5 +1,6 @@
-//! Figures: Gatehazel's decoder timed beside the Rust that it ports, in one process. `beside/figures.sh` builds and runs it at the
-//! repository's root; with `--write` the run's lines go into docs/FIGURES.md, and its curves into docs/figures.svg.
+//! Figures: Gatehazel's decoder timed beside the Rust that it ports, in one process, and its writer beside its decoder.
+//! `beside/figures.sh` builds and runs it at the repository's root; with `--write` the run's lines go into docs/FIGURES.md, and its curves
+//! into docs/figures.svg.
 //! Nothing here passes or fails by a time: a ratio is told, never asserted.
 
 // The wrappers serve other programs as well, which ask questions; here they stay unused.
@@ -26,6 +27,7 @@ const TOO_LONG: f64 = 2.0e9;
 const OF_SAMPLES: Patience = Patience { rounds: 200, time: Duration::from_millis(1500) };
 const OF_ROOM: Patience = Patience { rounds: 100, time: Duration::from_millis(300) };
 const OF_GROWTH: Patience = Patience { rounds: 3, time: Duration::from_millis(250) };
+const OF_WRITES: Patience = Patience { rounds: 3, time: Duration::from_millis(80) };
 
 /// What the columns of the dialects' lines mean.
 const DIALECTS: &str = "\
@@ -35,14 +37,15 @@ Dialects, in microseconds: the least of the rounds, and below it the median. A r
   ratio        the Rust / ours
   clear+copy   zeros into those tables, the words copied, the tables' bytes copied: what filling lent tables takes without any decoding
   roomy        ours where every table has room for 65,536 records, 8,389 kB in all; `clear roomy` is zeros into that room and nothing else
+  write        the tables turned back into words, in rounds of its own, into an output exactly as long as the words; `of ours` is write / ours
 
-dialect        words  tables  the Rust  with drop     ours  ratio  clear+copy    roomy  clear roomy
+dialect        words  tables  the Rust  with drop     ours  ratio  clear+copy    roomy  clear roomy    write  of ours
 ";
 
 /// What the columns of the growth lines mean.
 const GROWING: &str = "
 Growth, in microseconds, the least of the rounds; tables as above. `grows` is the time over that of half the size: 2 is linear, 4 is quadratic.
-`ns each` is ours over the size. A dash: left out, since a run would take more than two seconds.
+`ns each` is ours over the size, and `of ours` is write / ours. A dash: left out, since a run would take more than two seconds.
 ";
 
 /// A way to grow: what is counted, the sizes' first and last power of two, and the list of a size.
@@ -71,6 +74,7 @@ pub struct Point {
     pub size: usize,
     pub rust: Option<f64>,
     pub ours: Option<f64>,
+    pub written: Option<f64>,
 }
 
 /// A curve for the plot.
@@ -117,10 +121,12 @@ fn sample(name: String, out: &mut String) -> Ratio {
     let mut subject = Subject::new(sample_words(&name));
     let m = timing::measure(&mut subject, &OF_SAMPLES, true, true);
     let (room, clearing) = timing::roomy(&subject, &OF_ROOM);
+    let writes = timing::writes(&mut subject, &OF_ROOM);
     let mut line = |head: String, of: fn(&timing::Times) -> f64| {
         let (built, ours) = (of(&m.built), of(&m.ours));
         let _ = write!(out, "{head:<28}{:>10}{:>11}{:>9}{:>7.2}", micro(built), micro(of(&m.dropped)), micro(ours), built / ours);
-        let _ = writeln!(out, "{:>12}{:>9}{:>13}", micro(of(&m.floor)), micro(of(&room)), micro(of(&clearing)));
+        let _ = write!(out, "{:>12}{:>9}{:>13}", micro(of(&m.floor)), micro(of(&room)), micro(of(&clearing)));
+        let _ = writeln!(out, "{:>9}{:>9.2}", micro(of(&writes)), of(&writes) / ours);
         built / ours
     };
     let ratio = line(format!("{name:<13}{:>7}{:>5} kB", subject.words.len(), subject.bytes() / 1000), timing::Times::least);
@@ -150,13 +156,17 @@ fn grow_once(growth: &Growth, size: usize, points: &mut Vec<Point>, out: &mut St
     let mut subject = Subject::new((growth.list)(size));
     let (with_rust, with_ours) = (!too_long(points, |p| p.rust), !too_long(points, |p| p.ours));
     let m = timing::measure(&mut subject, &OF_GROWTH, with_rust, with_ours);
-    let point = Point { size, rust: with_rust.then(|| m.built.least()), ours: with_ours.then(|| m.ours.least()) };
+    let written = with_ours.then(|| timing::writes(&mut subject, &OF_WRITES).least());
+    let point = Point { size, rust: with_rust.then(|| m.built.least()), ours: with_ours.then(|| m.ours.least()), written };
     let before = points.last();
     let each = point.ours.map_or("-".into(), |ours| format!("{:.1}", ours / size as f64));
-    let ratio = point.rust.zip(point.ours).map_or("-".into(), |(rust, ours)| format!("{:.2}", rust / ours));
+    let over_ours = |time: Option<f64>| time.zip(point.ours).map_or("-".into(), |(time, ours)| format!("{:.2}", time / ours));
+    let (ratio, of_ours) = (over_ours(point.rust), over_ours(point.written));
     let ours = grown(point.ours, before.and_then(|p| p.ours));
     let rust = grown(point.rust, before.and_then(|p| p.rust));
-    let _ = writeln!(out, "{size:>10}{:>10}{ours}{each:>11}{rust}{ratio:>9}{:>12}", subject.records(), micro(m.floor.least()));
+    let written = grown(point.written, before.and_then(|p| p.written));
+    let _ = write!(out, "{size:>10}{:>10}{ours}{each:>11}{rust}{ratio:>9}{:>12}", subject.records(), micro(m.floor.least()));
+    let _ = writeln!(out, "{written}{of_ours:>9}");
     points.push(point);
 }
 
@@ -164,8 +174,8 @@ fn grow(growth: &Growth, out: &mut String) -> Curve {
     let _ = writeln!(out, "\n{}\n", growth.title);
     let _ = writeln!(
         out,
-        "{:>10}{:>10}{:>12}{:>7}{:>11}{:>12}{:>7}{:>9}{:>12}",
-        growth.counted, "records", "ours", "grows", "ns each", "the Rust", "grows", "ratio", "clear+copy"
+        "{:>10}{:>10}{:>12}{:>7}{:>11}{:>12}{:>7}{:>9}{:>12}{:>12}{:>7}{:>9}",
+        growth.counted, "records", "ours", "grows", "ns each", "the Rust", "grows", "ratio", "clear+copy", "write", "grows", "of ours"
     );
     let mut points = Vec::new();
     for power in growth.sizes.clone() {

@@ -1,5 +1,5 @@
 #!/bin/sh
-# Measures the decoder beside the Rust that it ports, in one process, both built for release, and prints the figures.
+# Measures the decoder beside the Rust that it ports, in one process, both built for release, and the writer, and prints the figures.
 # With --write the run also goes into docs/FIGURES.md and docs/figures.svg.
 # Needs rt and rustc. The archive is built anew where a source is newer than it. A run takes about a minute; let the machine rest meanwhile.
 set -eu

@@ -24,6 +24,14 @@ mod c {
             set: i32, answer: *mut i64, answer_len: usize,
         ) -> u32;
         pub fn gatehazel_lookup(ranges: *const i32, ranges_len: usize, value: i32) -> u32;
+        pub fn gatehazel_write(
+            states: *const i32, states_len: usize, states_count: usize, edges: *const i32, edges_len: usize, edges_count: usize,
+            ranges: *const i32, ranges_len: usize, ranges_count: usize, sets: *const i32, sets_len: usize, sets_count: usize,
+            rules: *const i32, rules_len: usize, rules_count: usize, modes: *const i32, modes_len: usize, modes_count: usize,
+            decisions: *const i32, decisions_len: usize, decisions_count: usize,
+            actions: *const i32, actions_len: usize, actions_count: usize,
+            max_token_type: i32, out: *mut i32, out_len: usize, answer: *mut i64, answer_len: usize,
+        ) -> u32;
     }
 }
 
@@ -152,4 +160,43 @@ pub fn lookup(ranges: &[i32], value: i32) -> bool {
     let answer = unsafe { c::gatehazel_lookup(ranges.as_ptr(), ranges.len(), value) };
     assert!(answer <= 1, "the answer is yes or no");
     answer == 1
+}
+
+/// What a write is given: the eight tables that hold records, how many of them count, and max token type.
+#[derive(Clone, Copy)]
+pub struct Records<'a> {
+    pub tables: [&'a [i32]; 8],
+    pub counts: [usize; 8],
+    pub token: i32,
+}
+
+impl<'a> Records<'a> {
+    /// As a decode left them.
+    pub fn of(tables: &'a Tables, counts: &Counts) -> Records<'a> {
+        let [_, token, states, edges, _, ranges, sets, rules, modes, decisions, actions] = *counts;
+        let counts = [states, edges, ranges, sets, rules, modes, decisions, actions].map(|count| count as usize);
+        Records { tables: std::array::from_fn(|table| &tables[table][..]), counts, token: token as i32 }
+    }
+}
+
+/// Writes the words of the records: the number that it returns. The answer may be of any length.
+pub fn write_into(given: Records, out: &mut [i32], answer: &mut [i64]) -> u32 {
+    let [states, edges, ranges, sets, rules, modes, decisions, actions] = given.tables;
+    let n = given.counts;
+    // Sound: as for `decode_into`; nothing but the output and the answer is written.
+    unsafe {
+        c::gatehazel_write(
+            states.as_ptr(), states.len(), n[0], edges.as_ptr(), edges.len(), n[1], ranges.as_ptr(), ranges.len(), n[2],
+            sets.as_ptr(), sets.len(), n[3], rules.as_ptr(), rules.len(), n[4], modes.as_ptr(), modes.len(), n[5],
+            decisions.as_ptr(), decisions.len(), n[6], actions.as_ptr(), actions.len(), n[7],
+            given.token, out.as_mut_ptr(), out.len(), answer.as_mut_ptr(), answer.len(),
+        )
+    }
+}
+
+/// How many words are written, or the refusal's number.
+pub fn write(given: Records, out: &mut [i32]) -> Result<usize, u32> {
+    let mut answer = [-1i64; 16];
+    let number = write_into(given, out, &mut answer);
+    if number == 0 { Ok(answer[0] as usize) } else { Err(number) }
 }

@@ -34,7 +34,7 @@ pub fn difference(told: &Told, expected: &Answer, came: &Answer, tables: &Tables
 }
 
 /// The first word that is not the records' and, behind them, not 0; a slice that cannot hold the records is wrong at its end.
-fn wrong_word(records: &[i32], table: &[i32]) -> Option<usize> {
+pub fn wrong_word(records: &[i32], table: &[i32]) -> Option<usize> {
     if table.len() < records.len() {
         return Some(table.len());
     }
@@ -57,8 +57,8 @@ pub fn hold(told: &Told, words: &[i32], lengths: &[usize; 9], tables: &mut Table
 }
 
 /// What words between slices, and elements behind an answer, hold and must keep.
-const STAYS: i32 = 0x5A5A_5A5A;
-const GAP: usize = 3;
+pub const STAYS: i32 = 0x5A5A_5A5A;
+pub const GAP: usize = 3;
 
 /// A block for slices of these lengths, with words before, between and behind them.
 pub fn block(lengths: &[usize; 9]) -> Vec<i32> {
@@ -91,19 +91,23 @@ pub fn hold_apart(told: &Told, lengths: &[usize; 9], rng: &mut Rng) -> Result<()
     });
     let number = gatehazel::decode_into(&told.words, parts, &mut answer);
     let expected = told.expected(lengths);
-    if (number, &answer) != (expected.err().map_or(0, |refusal| refusal.number), &handed(&expected, answer.len())) {
+    if (number, &answer) != (expected.err().map_or(0, |refusal| refusal.number), &handed(values(&expected), answer.len())) {
         return Err(format!("expected {}, came {number} and the answer {answer:?}", spelled(&expected)));
     }
     let tables = taken_apart(&block, lengths)?;
     difference(told, &expected, &expected, &tables).map_or(Ok(()), |what| Err(format!("in one block: {what}; slices of {lengths:?} words")))
 }
 
-/// What the header says of an answer of this length.
-fn handed(answer: &Answer, length: usize) -> Vec<i64> {
-    let mut values = match answer {
+/// What a decode's answer holds.
+fn values(answer: &Answer) -> Vec<i64> {
+    match answer {
         Ok(counts) => counts.to_vec(),
         Err(r) => vec![i64::from(r.number), i64::from(r.field), r.place as i64, r.value],
-    };
+    }
+}
+
+/// What the header says of an answer of this length that holds these values.
+pub fn handed(mut values: Vec<i64>, length: usize) -> Vec<i64> {
     values.resize(16, 0);
     values.resize(length.max(16), i64::from(STAYS));
     values.truncate(length);

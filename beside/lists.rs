@@ -62,7 +62,7 @@ impl Net {
         self
     }
 
-    fn sets(mut self, sets: &[Set]) -> Net {
+    pub fn sets(mut self, sets: &[Set]) -> Net {
         self.sets = sets.to_vec();
         self
     }
@@ -95,7 +95,7 @@ pub fn call(source: i32, target: i32, follow: i32) -> [i32; 6] {
     [source, follow, 3, target, 0, 0]
 }
 
-fn edge(source: i32, target: i32, kind: i32, a: i32) -> [i32; 6] {
+pub fn edge(source: i32, target: i32, kind: i32, a: i32) -> [i32; 6] {
     [source, target, kind, a, 0, 0]
 }
 

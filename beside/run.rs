@@ -1,16 +1,22 @@
-//! A run: each list is told, decoded in several rooms, cut, extended and asked; a mismatch is made small and printed.
+//! A run: each list is told, decoded in several rooms, cut, extended, asked and written; a mismatch is made small and printed.
 
 use crate::asked::{Accepted, Tally};
-use crate::gatehazel::Tables;
+use crate::damages::{Damage, nearer};
+use crate::gatehazel::{Tables, write_into};
 use crate::hold::{hold, hold_apart};
+use crate::judged;
 use crate::rooms::{Room, USUAL};
 use crate::seeded::{Rng, some_words};
 use crate::shrink::shrink;
 use crate::summary::{Summary, spelled};
 use crate::told::{Answer, Told};
+use crate::written::{Pairs, Wanted, Written, written};
 
 /// After so many mismatches a run stops.
 const ENOUGH: u64 = 10;
+
+/// One list of so many is written more than once.
+const MORE: usize = 16;
 
 /// What is held of a list.
 #[derive(Clone, Copy)]
@@ -25,12 +31,17 @@ pub enum Check {
     Behind,
     /// The words read of an accepted list, cut short, are refused as ended, at their length.
     Cut,
+    /// An accepted list's tables, written; those of a list that asks for more than 65,536 records, judged.
+    Written,
 }
 
 /// What was compared.
 pub enum Seen {
     Decode([usize; 9], Answer),
     Questions(Tally),
+    Written(Written),
+    /// Whether the tables are writable.
+    Judged(bool),
     Same,
     /// The check says nothing of this list.
     Nothing,
@@ -59,6 +70,9 @@ pub struct Run {
     tables: Tables,
     others: Vec<Room>,
     turn: usize,
+    /// The writes' numbers: so the other checks have the same numbers with writes and without.
+    writes: Rng,
+    pairs: Pairs,
 }
 
 impl Check {
@@ -69,6 +83,7 @@ impl Check {
             Check::Questions(_) => String::from("questions"),
             Check::Behind => String::from("words behind"),
             Check::Cut => String::from("cut short"),
+            Check::Written => String::from("tables written"),
         }
     }
 
@@ -87,6 +102,7 @@ impl Check {
             Check::Questions(most) => questions(told, most, tables, &mut rng),
             Check::Behind => behind(told, tables, &mut rng),
             Check::Cut => cut(told, tables, &mut rng),
+            Check::Written => write(told, tables, &mut rng),
         }
     }
 }
@@ -124,9 +140,24 @@ fn cut(told: &Told, tables: &mut Tables, rng: &mut Rng) -> Result<Seen, String> 
     hold(&shorter, &shorter.words, &lengths, tables, rng).map(|_| Seen::Same)
 }
 
+fn write(told: &Told, tables: &mut Tables, rng: &mut Rng) -> Result<Seen, String> {
+    if told.answer.is_err() {
+        return Ok(Seen::Nothing);
+    }
+    let (more, room) = (rng.below(MORE) == 0, rng.pick(&[Room::Full, Room::Full, Room::Full, Room::Odd, Room::Large]));
+    let Some(lengths) = room.lengths(told, USUAL, rng) else { return Ok(Seen::Nothing) };
+    match written(told, &Wanted { lengths, more }, tables, &write_into, rng)? {
+        Some(written) => Ok(Seen::Written(written)),
+        None => judged::damaged(told, &[], &write_into, rng).map(|writable| writable.map_or(Seen::Nothing, Seen::Judged)),
+    }
+}
+
 impl Run {
     pub fn new(seed: u64) -> Run {
-        Run { rng: Rng::new(seed), summary: Summary::default(), seed, tables: Tables::default(), others: Room::others(), turn: 0 }
+        Run {
+            rng: Rng::new(seed), summary: Summary::default(), seed, tables: Tables::default(), others: Room::others(), turn: 0,
+            writes: Rng::new(seed), pairs: Pairs::default(),
+        }
     }
 
     /// Begins a part of the run. Each has its own numbers from the seed, so that lists added to one part leave the others as they are.
@@ -135,6 +166,8 @@ impl Run {
         let spelled = part.bytes().fold(self.seed, |sum, byte| sum.wrapping_mul(31).wrapping_add(u64::from(byte)));
         self.rng = Rng::new(spelled);
         self.turn = 0;
+        self.writes = Rng::new(!spelled);
+        self.pairs.clear();
     }
 
     /// Everything that the care asks for.
@@ -159,13 +192,18 @@ impl Run {
         if care.questions > 0 {
             self.check(family, &told, Check::Questions(care.questions));
         }
+        if told.answer.is_ok() {
+            self.check(family, &told, Check::Written);
+        }
     }
 
     /// Whether the check says something of the list.
     fn check(&mut self, family: &'static str, told: &Told, check: Check) -> bool {
-        let seed = self.rng.next();
+        let seed = if matches!(check, Check::Written) { self.writes.next() } else { self.rng.next() };
         match (check.of(told, seed, &mut self.tables), check) {
             (Ok(Seen::Nothing), _) => return false,
+            (Ok(Seen::Written(written)), _) => self.written(family, told, &written),
+            (Ok(Seen::Judged(writable)), _) => self.summary.judged.add(&[], writable),
             (Ok(Seen::Decode(lengths, answer)), Check::Decode(room, _)) => self.summary.decode(told, room, &lengths, &answer),
             (Ok(Seen::Questions(tally)), _) => self.summary.asked.add(tally),
             (Ok(_), Check::Apart) => self.summary.apart += 1,
@@ -174,6 +212,46 @@ impl Run {
             (Err(what), _) => self.mismatch(family, &told.words, check, seed, what),
         }
         true
+    }
+
+    /// Counts what was written, and holds it to what was written of other lists.
+    fn written(&mut self, family: &str, told: &Told, written: &Written) {
+        match self.pairs.add(told, &written.words) {
+            Ok(compared) => self.summary.written(told, written, &compared),
+            Err(what) => {
+                println!("MISMATCH in {family}, tables written of two lists, run's seed {}", self.seed);
+                println!("  words: {}", spelled(&told.words));
+                println!("  written {}; {what}", spelled(&written.words));
+                self.count_mismatch();
+            }
+        }
+    }
+
+    /// An accepted list's tables, damaged so, are written or refused as they are judged.
+    pub fn damaged(&mut self, family: &str, told: &Told, damages: &[Damage]) {
+        let seed = self.writes.next();
+        match judged::damaged(told, damages, &write_into, &mut Rng::new(seed)) {
+            Ok(None) => {}
+            Ok(Some(writable)) => self.summary.judged.add(damages, writable),
+            Err(what) => self.damaged_mismatch(family, &told.words, damages, seed, what),
+        }
+    }
+
+    fn damaged_mismatch(&mut self, family: &str, words: &[i32], damages: &[Damage], seed: u64, what: String) {
+        let mut done = damages.to_vec();
+        let (small, what) = shrink(words, what, |list| {
+            let told = Told::of(list);
+            nearer(&done).into_iter().find_map(|damages| {
+                let what = judged::damaged(&told, &damages, &write_into, &mut Rng::new(seed)).err()?;
+                done = damages;
+                Some(what)
+            })
+        });
+        let shown: Vec<String> = done.iter().map(|damage| damage.shown()).collect();
+        println!("MISMATCH in {family}, tables damaged, run's seed {}, check's seed {seed}", self.seed);
+        println!("  words: {}", spelled(&small));
+        println!("  in their tables {}: {what}", shown.join(", "));
+        self.count_mismatch();
     }
 
     fn mismatch(&mut self, family: &str, words: &[i32], check: Check, seed: u64, what: String) {

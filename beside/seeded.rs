@@ -223,7 +223,8 @@ pub fn some_words(rng: &mut Rng, count: usize) -> Vec<i32> {
     (0..count).map(|_| one(rng)).collect()
 }
 
-fn word_near(rng: &mut Rng, word: i32) -> i32 {
+/// A small word, one near this word, or an extreme one.
+pub fn word_near(rng: &mut Rng, word: i32) -> i32 {
     let small = rng.within(-20, 40);
     let (up, down, turned) = (word.wrapping_add(1), word.wrapping_sub(1), word.wrapping_neg());
     rng.pick(&[-1, 0, 1, 2, 3, 7, 12, up, up, down, down, turned, i32::MIN, i32::MAX, 65_537, small, small])

@@ -8,6 +8,7 @@ use crate::rooms::{Room, USUAL};
 use crate::seeded::Rng;
 use crate::shrink::shrink;
 use crate::told::{Answer, Told};
+use crate::wrong;
 
 /// A decode that agrees, to be damaged.
 struct Sound {
@@ -145,5 +146,5 @@ pub fn self_test(seed: u64) -> Result<u64, String> {
     if small != [7] {
         return Err(format!("a list was not made small: {small:?}"));
     }
-    Ok(caught)
+    Ok(caught + wrong::noticed(&mut rng)?)
 }

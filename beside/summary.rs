@@ -1,9 +1,11 @@
 //! What a run counted, and how it is printed. Nothing in it depends on the time, so that a seed and a count print the same again.
 
 use crate::asked::Tally;
+use crate::damages::{self, Damage};
 use crate::gatehazel::{Refusal, TABLES};
 use crate::rooms::{KINDS, Room};
-use crate::told::{Answer, MOST_ROOM, Told};
+use crate::told::{Answer, MOST_ROOM, RULES, Told};
+use crate::written::{Compared, Written};
 use std::collections::{BTreeMap, BTreeSet};
 
 /// A kind of intended difference: how often it was met, and the shortest list that showed it.
@@ -31,6 +33,55 @@ impl Met {
     }
 }
 
+/// What became of tables that were damaged and judged.
+#[derive(Default)]
+pub struct Judged {
+    /// By kind of damage, then of several together and of none: how many are 15, and how many writable.
+    kinds: [[u64; 2]; damages::KINDS.len() + 2],
+    /// Table and word of a record where one changed word is 15.
+    refused: BTreeSet<(usize, usize)>,
+}
+
+impl Judged {
+    pub fn add(&mut self, damages: &[Damage], writable: bool) {
+        let kind = match damages {
+            [] => damages::KINDS.len() + 1,
+            [one] => one.kind(),
+            _ => damages::KINDS.len(),
+        };
+        self.kinds[kind][usize::from(writable)] += 1;
+        if let ([Damage::Word { table, at, .. }], false) = (damages, writable) {
+            self.refused.insert((*table, at % TABLES[*table].1));
+        }
+    }
+
+    /// How many are 15, and how many writable.
+    pub fn both(&self) -> [u64; 2] {
+        [0, 1].map(|writable| self.kinds.iter().map(|counts| counts[writable]).sum())
+    }
+
+    /// What has to be met, and was not: of each kind of damage tables that are 15 and tables that are not, as far as there are any; and at
+    /// every word of a record 15, but for a rule's token type, which may be any.
+    pub fn missing(&self) -> Vec<String> {
+        let other = |&kind: &usize| self.kinds[kind].map(|count| count > 0) != damages::KINDS[kind].1;
+        let kinds = (0..damages::KINDS.len()).filter(other);
+        let words = (0..8).flat_map(|table| (0..TABLES[table].1).map(move |word| (table, word)));
+        let free = words.filter(|word| self.refused.contains(word) == (*word == (RULES, 2)));
+        kinds.map(|kind| format!("damaged tables are not of the kinds that there are: {}", damages::KINDS[kind].0))
+            .chain(free.map(|(table, word)| format!("damaged tables do not show word {word} of {}", TABLES[table].0)))
+            .collect()
+    }
+
+    fn print(&self) {
+        let [refused, writable] = self.both();
+        println!("tables damaged and judged by request R-1: {}, of them 15: {refused}, writable after all: {writable}", refused + writable);
+        for (name, at) in [("15", 0), ("writable", 1)] {
+            let names = damages::KINDS.into_iter().map(|kind| kind.0).chain(["several of these", "none, above 65,536"]);
+            println!("  {name}, by damage: {}", listed(names.zip(self.kinds.iter().map(|counts| counts[at]))));
+        }
+    }
+}
+
 #[derive(Default)]
 pub struct Summary {
     pub lists: u64,
@@ -52,6 +103,12 @@ pub struct Summary {
     pub cut: u64,
     pub asked: Tally,
     pub ruled: u64,
+    /// Lists whose tables were written, and their words; lists that were written other than they were read; outputs of another length, and
+    /// those of them that were too short.
+    writes: [u64; 5],
+    /// Lists compared with earlier ones: those that gave the records of another, and those that gave new ones.
+    same: [u64; 2],
+    pub judged: Judged,
     pub damages: u64,
     short_of_room: Met,
     above_most: Met,
@@ -128,6 +185,20 @@ impl Summary {
         }
     }
 
+    /// An accepted list whose tables were written.
+    pub fn written(&mut self, told: &Told, written: &Written, compared: &Compared) {
+        let words = &written.words;
+        let otherwise = told.words[..told.rests_on] != *words;
+        let [other, short] = [usize::MAX, words.len()].map(|above| u64::from(written.other.is_some_and(|length| length < above)));
+        let more = [1, words.len() as u64, u64::from(otherwise), other, short];
+        self.writes.iter_mut().zip(more).for_each(|(count, more)| *count += more);
+        match compared {
+            Compared::Same => self.same[0] += 1,
+            Compared::New => self.same[1] += 1,
+            Compared::Left => {}
+        }
+    }
+
     fn twelve(&mut self, told: &Told, refusal: Refusal) {
         // return edges are tested before the word at that place is read, all else after
         let derived = told.tests.iter().any(|test| test.refusal == refusal && test.read == refusal.place);
@@ -170,9 +241,19 @@ impl Summary {
         println!("questions compared: matches {}, n-th edge {}, set's part {}, lookup {}", asked.matches, asked.edges, asked.parts, asked.lookups);
         println!("  lists asked at every border: {}; at some, for their size: {}", asked.all_borders, asked.some_borders);
         println!("questions on tables that no decode left, expected by document 01's rule: {}", self.ruled);
+        self.print_written();
+        self.judged.print();
         self.print_intended();
         println!("self-test: {} damages, all caught", self.damages);
         println!("mismatches: {}", self.mismatches);
+    }
+
+    fn print_written(&self) {
+        let [lists, words, otherwise, other, short] = self.writes;
+        println!("tables written, and what was written read again: {lists} lists, {words} words; other words than the list's: {otherwise} lists");
+        println!("  written again, and into an output of another length: {other} lists, of them too short, 16: {short}");
+        let [same, new] = self.same;
+        println!("  the same words exactly for the same records: {new} lists of new records, {same} of an earlier one's");
     }
 
     fn print_intended(&self) {

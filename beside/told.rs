@@ -57,6 +57,20 @@ impl Told {
         }
         let decoded = oracle::decode(words);
         let rests_on = oracle::rests_on(words, &decoded);
+        Told::from(words, decoded, rests_on)
+    }
+
+    /// The same for a list of which most likely all words are read: the Rust is asked less often then.
+    pub fn of_all(words: &[i32]) -> Told {
+        let last = words.len().checked_sub(1).filter(|_| oracle::too_large(words).is_none());
+        match last.map(|last| (oracle::decode(words), oracle::decode(&words[..last]))) {
+            Some((Ok(network), Err(_))) => Told::from(words, Ok(network), words.len()),
+            _ => Told::of(words),
+        }
+    }
+
+    /// Of the Rust's answer, which rests on so many words.
+    fn from(words: &[i32], decoded: Result<LexerAtn, String>, rests_on: usize) -> Told {
         let walk = Walk::of(&words[..rests_on]);
         let kept = kept_sets(&walk);
         let all_edges = all_edges(&walk, &decoded);

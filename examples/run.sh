@@ -1,5 +1,5 @@
 #!/bin/sh
-# Builds the archive, the C example and the Rust example, runs them, and holds what they print to examples/expected.
+# Builds the archive, the C examples and the Rust example, runs them, and holds what they print to examples/expected.
 # Needs rt, a C compiler and rustc. Run it at the repository's root.
 set -eu
 cd "$(dirname "$0")/.."
@@ -7,9 +7,11 @@ rt staticlib capi > /dev/null 2>&1 || { echo 'examples: rt staticlib capi failed
 out=target/examples
 mkdir -p "$out"
 cc -std=c99 -Wall -Wextra -Iinclude -o "$out/walk" examples/c/walk.c target/staticlib/libcapi.a
+cc -std=c99 -Wall -Wextra -Iinclude -o "$out/patch" examples/c/patch.c target/staticlib/libcapi.a
 rustc --edition 2024 -O -L target/staticlib -o "$out/matching" examples/rust/matching.rs
 {
     "$out/walk" samples/xpathlexer.atn 42
+    "$out/patch" samples/xpathlexer.atn 2 7
     "$out/matching"
 } > "$out/printed"
 diff examples/expected "$out/printed"

@@ -1,4 +1,4 @@
-/* Gatehazel: decodes a serialized ANTLR lexer dialect into lent tables, and answers questions about them.
+/* Gatehazel: decodes a serialized ANTLR lexer dialect into lent tables, writes such tables back as words, and answers questions about them.
  *
  * Link target/staticlib/libcapi.a (`rt staticlib capi`), x86-64.
  *
@@ -24,6 +24,9 @@
  *   10 an edge's source is not listed  11 unknown action type             12 no room (value: records needed)
  * Refusals of a question: number, value.
  *   13 no such record                  14 the tables contradict themselves
+ * Refusals of a writing: number.
+ *   15 a count exceeds its table's whole records, or no words, in any room, decode to these records
+ *   16 the output is too short
  */
 #ifndef GATEHAZEL_H
 #define GATEHAZEL_H
@@ -43,6 +46,19 @@ uint32_t gatehazel_decode(const int32_t *words, size_t words_len,
     int32_t *sets, size_t sets_len, int32_t *rules, size_t rules_len, int32_t *modes, size_t modes_len,
     int32_t *decisions, size_t decisions_len, int32_t *actions, size_t actions_len, int32_t *scratch, size_t scratch_len,
     int64_t *answer, size_t answer_len);
+
+/* Writes the words of a dialect, from the records that it decodes to and its max token type. Of each table the first `_count` records are
+ * looked at, and no words behind them; edges count with derived ones, which are not written. There is one form: flagged states ascend; a
+ * set's EOF flag is 0, and -1 is one of its ranges; c of edge types 2 and 5 is 0; an absent rule or action is -1; unused arguments are 0.
+ * 0: answer = the number of words; `out` holds them, and zeros behind them. Decoded in the same room, those words give the same records.
+ * Else 15, whatever `out_len` is, or 16: answer = number; `out` is all zero. What `out` held before never matters.
+ * There is no scratch: to find tail calls it takes about 1 MiB of stack (262,144 words, 1,048,576 bytes). */
+uint32_t gatehazel_write(const int32_t *states, size_t states_len, size_t states_count,
+    const int32_t *edges, size_t edges_len, size_t edges_count, const int32_t *ranges, size_t ranges_len, size_t ranges_count,
+    const int32_t *sets, size_t sets_len, size_t sets_count, const int32_t *rules, size_t rules_len, size_t rules_count,
+    const int32_t *modes, size_t modes_len, size_t modes_count, const int32_t *decisions, size_t decisions_len, size_t decisions_count,
+    const int32_t *actions, size_t actions_len, size_t actions_count, int32_t max_token_type,
+    int32_t *out, size_t out_len, int64_t *answer, size_t answer_len);
 
 /* The number of a state's n-th edge, n from 0. 0: answer = the edge. Else 13 (the state, or n) or 14: answer = number, value. */
 uint32_t gatehazel_nth_edge(const int32_t *states, size_t states_len, size_t state_count,

@@ -15,6 +15,7 @@ const HEAD: f64 = 40.0;
 
 const OURS: &str = "#1260a8";
 const RUST: &str = "#c2500e";
+const WRITTEN: &str = "#3f8f4f";
 const GREY: &str = "#9a9a9a";
 
 /// A panel's place, and the decades that its axes show.
@@ -82,7 +83,7 @@ fn axes(svg: &mut String, panel: &Panel, curve: &Curve) {
     text(svg, panel.x + 14.0, (top + bottom) / 2.0, "middle", &turned, "time");
 }
 
-/// One decoder's curve: a line with a dot for each size.
+/// One curve: a line with a dot for each size.
 fn curve(svg: &mut String, panel: &Panel, points: &[Point], of: fn(&Point) -> Option<f64>, colour: &str) {
     let places: Vec<(f64, f64)> = points
         .iter()
@@ -110,6 +111,7 @@ fn growth(svg: &mut String, number: usize, of: &Curve, times: (f64, f64)) {
     axes(svg, &panel, of);
     guide(svg, &panel, &of.points);
     curve(svg, &panel, &of.points, |point| point.rust, RUST);
+    curve(svg, &panel, &of.points, |point| point.written, WRITTEN);
     curve(svg, &panel, &of.points, |point| point.ours, OURS);
 }
 
@@ -138,7 +140,8 @@ fn bars(svg: &mut String, number: usize, ratios: &[Ratio]) {
 
 /// Which colour is whose, above the panels.
 fn legend(svg: &mut String) {
-    for (i, (colour, dash, words)) in [(OURS, "", "Gatehazel"), (RUST, "", "the Rust"), (GREY, "5 4", "linear growth")].iter().enumerate() {
+    let all = [(OURS, "", "Gatehazel"), (WRITTEN, "", "written back"), (RUST, "", "the Rust"), (GREY, "5 4", "linear growth")];
+    for (i, (colour, dash, words)) in all.iter().enumerate() {
         let x = LEFT + 150.0 * i as f64;
         line(svg, (x, 20.0), (x + 28.0, 20.0), &format!(r##"stroke="{colour}" stroke-width="2.5" stroke-dasharray="{dash}""##));
         text(svg, x + 35.0, 24.0, "start", "", words);
@@ -147,7 +150,7 @@ fn legend(svg: &mut String) {
 
 /// The whole picture. All growth panels show the same decades of time, so that they can be held together.
 pub fn drawing(curves: &[Curve], ratios: &[Ratio]) -> String {
-    let all: Vec<f64> = curves.iter().flat_map(|c| &c.points).flat_map(|p| [p.rust, p.ours]).flatten().collect();
+    let all: Vec<f64> = curves.iter().flat_map(|c| &c.points).flat_map(|p| [p.rust, p.ours, p.written]).flatten().collect();
     let least = all.iter().copied().fold(f64::INFINITY, f64::min).log10().floor();
     let most = all.iter().copied().fold(1.0, f64::max).log10().ceil();
     let rows = (curves.len() + 1).div_ceil(ACROSS) as f64;

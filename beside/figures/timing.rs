@@ -1,6 +1,7 @@
-//! Times one list: the Rust and Gatehazel in turn, round after round, and beside them what clearing and copying the same bytes takes.
+//! Times one list: the Rust and Gatehazel in turn, round after round, and beside them what clearing and copying the same bytes takes; then
+//! the list written from its tables.
 
-use crate::gatehazel::{self, Counts, RANGES, TABLES, Tables};
+use crate::gatehazel::{self, Counts, RANGES, Records, TABLES, Tables};
 use std::hint::black_box;
 use std::time::{Duration, Instant};
 
@@ -149,4 +150,22 @@ pub fn roomy(subject: &Subject, patience: &Patience) -> (Times, Times) {
         clearing.0.push(timed(|| tables.iter_mut().for_each(|table| black_box(table).fill(0))).0);
     }
     (ours, clearing)
+}
+
+/// Our write of the tables that our decode leaves, into an output exactly as long as the words; both are warm.
+pub fn writes(subject: &mut Subject, patience: &Patience) -> Times {
+    let _ = gatehazel::decode(&subject.words, &mut subject.tables);
+    let given = Records::of(&subject.tables, &subject.counts);
+    // A set that has EOF by its flag is written with two words more.
+    let mut out = vec![0; 2 * subject.words.len()];
+    let words = gatehazel::write(given, &mut out).expect("a decode's tables are written");
+    out.truncate(words);
+    let mut times = Times::default();
+    let start = Instant::now();
+    while times.0.len() < patience.rounds || start.elapsed() < patience.time {
+        let (time, answer) = timed(|| gatehazel::write(black_box(given), &mut out));
+        assert_eq!(answer, Ok(words));
+        times.0.push(time);
+    }
+    times
 }

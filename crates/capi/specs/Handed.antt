@@ -13,6 +13,8 @@ use Rattle.format.specs.declared.Decoded.{Decoded}
 use Rattle.format.specs.declared.Decoded.the-variants as D
 use Rattle.format.specs.declared.SetPart.{SetPart}
 use Rattle.format.specs.declared.SetPart.the-variants as P
+use Rattle.format.specs.declared.Written.{Written}
+use Rattle.format.specs.declared.Written.the-variants as W
 
 -- The values, and zeros up to the 16th.
 abbrev pub padded16 : List ℤ → List ℤ
@@ -102,6 +104,10 @@ pub record SmallCounts (c : Counts) : Type 0 where
 abbrev pub Small : Decoded → Type 0
 Small (D.Accepted c) = SmallCounts c
 Small (D.Refused q) = q .place < 2 ^ 63
+
+abbrev pub SmallWritten : Written → Type 0
+SmallWritten (W.Wrote n) = n < 2 ^ 63
+SmallWritten (W.Refused q) = q .place < 2 ^ 63
 
 -- a word that is not there
 pub set-beyond : (l : List ℤ) (i : ℕ) (v : ℤ) → length l ≤ i → l ≡ set l i v

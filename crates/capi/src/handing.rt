@@ -5,9 +5,9 @@ ghost use mathlib.Core.List.{[], _∷_};
 ghost use Prim.Native.Nat.{_<_, _^_};
 ghost use lib.IntN.{pos};
 ghost use lib.ListN.{set};
-ghost use Rattle.format.specs.Answers.{said, ofDecoded, ofNthEdge, ofMatching, ofSetPart};
+ghost use Rattle.format.specs.Answers.{said, ofDecoded, ofWritten, ofNthEdge, ofMatching, ofSetPart};
 ghost use Rattle.format.specs.declared.Decoded.the-variants as D;
-ghost use Rattle.capi.specs.Handed.{handed, Hands, Small, SmallCounts, SmallPart};
+ghost use Rattle.capi.specs.Handed.{handed, Hands, Small, SmallWritten, SmallCounts, SmallPart};
 use format::Counts;
 use format::Decoded;
 use format::Denial;
@@ -15,6 +15,7 @@ use format::Matching;
 use format::NthEdge;
 use format::Refusal;
 use format::SetPart;
+use format::Written;
 
 // A size, signed.
 fn signed(n: usize) -> i64
@@ -108,7 +109,7 @@ pub fn set_part(p: SetPart, answer: &mut [i64]) -> u32
     }
 }
 
-// A decode's refusal.
+// A decode's or a writing's refusal.
 fn refused(r: Refusal, answer: &mut [i64]) -> u32
     requires { ⌜ r .place < 2 ^ 63 ⌝ }
     ensures { λ n. ⌜ Hands (said (r .number) (pos (r .number) ∷ pos (r .field) ∷ pos (r .place) ∷ r .value ∷ [])) n (now (answer .entry)) (now (answer .exit)) ⌝ }
@@ -147,5 +148,19 @@ pub fn decoded(d: Decoded, answer: &mut [i64]) -> u32
             0
         }
         Decoded::Refused(r) => refused(r, answer),
+    }
+}
+
+// The number of words that were written, or the refusal.
+pub fn written(w: Written, answer: &mut [i64]) -> u32
+    requires { ⌜ SmallWritten w ⌝ }
+    ensures { λ r. ⌜ Hands (ofWritten w) r (now (answer .entry)) (now (answer .exit)) ⌝ }
+{
+    match w {
+        Written::Wrote(n) => {
+            one(signed(n), answer);
+            0
+        }
+        Written::Refused(r) => refused(r, answer),
     }
 }

@@ -1,18 +1,22 @@
-// The C interface for firmware: include/gatehazel.h. Each function asks one question of document 01 and hands its answer over as the
+// The C interface for firmware: include/gatehazel.h. Each function asks one question of document 01 or 02 and hands its answer over as the
 // number and the values that `format`'s Answers set out for it.
 
 mod handing;
 
 ghost use mathlib.Core.Path.{_≡_};
+ghost use mathlib.Core.List.{[]};
+ghost use lib.ListN.{length};
 ghost use Rattle.format.specs.Decode.{decoded};
 ghost use Rattle.inplace.specs.Whole.{tables};
 ghost use Rattle.serialized.specs.Rooms.{lengths};
 ghost use Rattle.serialized.specs.Answered.{leftBy};
 ghost use Rattle.format.specs.Answers.{ofDecoded, ofNthEdge, ofMatching, ofSetPart};
 ghost use Rattle.format.specs.Sections.{bit};
+ghost use Rattle.format.specs.Tables.{nine};
 ghost use Rattle.format.specs.Questions.{lookup, nthEdge, setPart};
 ghost use Rattle.format.specs.Questions as spec;
 ghost use Rattle.capi.specs.Handed.{Hands};
+ghost use Rattle.capi.specs.Written.{HandsWriting};
 
 // "The answer of a decode", and the nine tables as `gatehazel::decode` leaves them.
 #[no_mangle]
@@ -45,6 +49,54 @@ pub extern "C" fn gatehazel_decode(
         scratch,
     );
     handing::decoded(found, answer)
+}
+
+// Document 02, R-1: "Write the words for a set of lent tables, record counts and max token type, into a lent slice."
+#[no_mangle]
+pub extern "C" fn gatehazel_write(
+    states: &[i32],
+    states_count: usize,
+    edges: &[i32],
+    edges_count: usize,
+    ranges: &[i32],
+    ranges_count: usize,
+    sets: &[i32],
+    sets_count: usize,
+    rules: &[i32],
+    rules_count: usize,
+    modes: &[i32],
+    modes_count: usize,
+    decisions: &[i32],
+    decisions_count: usize,
+    actions: &[i32],
+    actions_count: usize,
+    max_token_type: i32,
+    out: &mut [i32],
+    answer: &mut [i64],
+) -> u32
+    ensures { λ r. ⌜ HandsWriting (nine (now (states .entry)) (now (edges .entry)) (now (ranges .entry)) (now (sets .entry)) (now (rules .entry)) (now (modes .entry)) (now (decisions .entry)) (now (actions .entry)) []) (nine «states_count» «edges_count» «ranges_count» «sets_count» «rules_count» «modes_count» «decisions_count» «actions_count» 0) «max_token_type» (length (now (out .entry))) r (now (answer .entry)) (now (answer .exit)) (now (out .exit)) ⌝ }
+{
+    let found = gatehazel::write(
+        states,
+        states_count,
+        edges,
+        edges_count,
+        ranges,
+        ranges_count,
+        sets,
+        sets_count,
+        rules,
+        rules_count,
+        modes,
+        modes_count,
+        decisions,
+        decisions_count,
+        actions,
+        actions_count,
+        max_token_type,
+        out,
+    );
+    handing::written(found, answer)
 }
 
 // "the number of a state's n-th edge (n from 0)"

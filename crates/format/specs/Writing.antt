@@ -167,13 +167,16 @@ pub record Writing : Type 0 where
   pub told : Written
   pub left : List ℤ
 
+abbrev pub writing : Written → List ℤ → Writing
+writing told left = record { told = told; left = left }
+
 -- "The answer is the number of words; the output behind them is zero." The output has m words.
 abbrev pub wrote : List ℤ → ℕ → Writing
-wrote ws m = record { told = W.Wrote (length ws); left = ws ++ zeros (m - length ws) }
+wrote ws m = writing (W.Wrote (length ws)) (ws ++ zeros (m - length ws))
 
 -- "Refusals from here on hold 0 in what isn't named"; "either leaves the output all zero"
 abbrev pub unwritten : ℕ → ℕ → Writing
-unwritten number m = record { told = W.Refused (refusal number 0 0 (pos 0)); left = zeros m }
+unwritten number m = writing (W.Refused (refusal number 0 0 (pos 0))) (zeros m)
 
 -- "15 exactly when .., tested first; 16 exactly when the output is too short"
 pub record Writes (tables : Table → List ℤ) (counts : Table → ℕ) (token : ℤ) (m : ℕ) (a : Writing) : Type 0 where

@@ -1,4 +1,5 @@
-// Gatehazel's public face: a serialized lexer network, decoded into lent tables (document 01, "Lent tables"), and the questions about them.
+// Gatehazel's public face: a serialized lexer network, decoded into lent tables (document 01, "Lent tables"), the questions
+// about them, and the tables turned back into words (document 02, R-1).
 // `decode` takes the words from the first on; `reader` begins at a place of the caller's choice.
 
 pub mod reader;
@@ -12,6 +13,8 @@ pub use questions::nth_edge;
 pub use questions::set_part;
 pub use questions::set_ranges;
 pub use ranges::contains;
+// Tables turned back into words: proved where it stands.
+pub use serializer::write;
 
 pub fn decode(
     words: &[i32],

@@ -18,7 +18,14 @@ use format::Counts;
 use format::Decoded;
 
 // The state from which the return edge of the edge e starts; n where e has none.
-pub fn return_stop(states: &[i32], edges: &[i32], rules: &[i32], n: usize, k: usize, e: usize) -> usize
+pub fn return_stop(
+    states: &[i32],
+    edges: &[i32],
+    rules: &[i32],
+    n: usize,
+    k: usize,
+    e: usize,
+) -> usize
     requires { ⌜ (Listed 8 n (length (now states))) × (8 * e + 8 ≤ length (now edges)) × (Listed 3 k (length (now rules))) ⌝ }
     ensures { λ r. ⌜ r ≡ returnStop n k (now (rules .entry)) (net (now (states .entry)) (now (edges .entry))) e ⌝ }
 {

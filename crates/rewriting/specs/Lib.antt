@@ -9,6 +9,7 @@ pub mod Whole
 pub mod Plain
 pub mod Laws
 pub mod Found
+pub mod Written
 -- Refusal 15 as tests of the tables
 pub mod Passes
 pub mod All

@@ -14,11 +14,11 @@ use Rattle.format.specs.Sections.{State, none, same, size, bit}
 use Rattle.format.specs.Links.{those, names, stopOf, tail}
 use Rattle.format.specs.Places.{stKind, stRule, stFlags, stFirst, stLast, stCount, edKind, edSource, edTarget, edNext, edMark, ruStart, ruStop, naState}
 use Rattle.format.specs.Tables.{nine, rowAt, zeros}
-use Rattle.format.specs.Writing.{wordsFor, write, own, inside, cell, stateBack, edgeBack, rowsOf, given, comes}
+use Rattle.format.specs.Writing.{writing, wordsFor, write, own, inside, cell, stateBack, edgeBack, rowsOf, given, comes}
 use Rattle.format.specs.declared.Refusal.{Refusal}
 use Rattle.format.specs.declared.Written.the-variants as W
 use Rattle.laws.specs.Own.{same-true}
-use Rattle.writing.specs.Whole.{with, answer}
+use Rattle.writing.specs.Whole.{answer}
 use Rattle.inplace.specs.Rows.{wordOf}
 use Rattle.inplace.specs.Sections.{stopsIn}
 use Rattle.tables.specs.Words.{spot}
@@ -360,7 +360,7 @@ module _ (n m k c : ℕ) (st ed ru : List ℤ) where
 -- ---- the answer
 
 module _ (tables : Table → List ℤ) (counts : Table → ℕ) (token : ℤ) (m : ℕ) where
-  pub write-refused : (inside tables counts && comes (given tables counts) token) ≡ false → {q : Refusal} {l : List ℤ} → q ≡ refusal 15 0 0 (pos 0) → l ≡ zeros m → with (W.Refused q) l ≡ write tables counts token m
+  pub write-refused : (inside tables counts && comes (given tables counts) token) ≡ false → {q : Refusal} {l : List ℤ} → q ≡ refusal 15 0 0 (pos 0) → l ≡ zeros m → writing (W.Refused q) l ≡ write tables counts token m
   unfolding write
   write-refused h p q = rw (h, p, q) refl
 

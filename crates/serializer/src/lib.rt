@@ -1,11 +1,9 @@
 // Document 02, R-1, "Turn tables back into words": the whole of it. First refusal 15, then the words, then refusal 16.
 
-ghost use mathlib.Core.Path.{_≡_};
 ghost use mathlib.Core.List.{[]};
 ghost use lib.ListN.{length};
 ghost use Rattle.format.specs.Tables.{nine};
-ghost use Rattle.format.specs.Writing as spec;
-ghost use Rattle.writing.specs.Whole.{with};
+ghost use Rattle.format.specs.Writing.{Writes, writing};
 use format::Written;
 
 mod counts;
@@ -13,7 +11,7 @@ mod fine;
 mod linked;
 mod others;
 
-// Whatever the tables, the counts and the output hold: the definition's answer, and its words in the output.
+// Whatever the tables, the counts and the output hold: the answer that is meant, and every word of the output.
 pub fn write(
     states: &[i32],
     states_count: usize,
@@ -34,9 +32,9 @@ pub fn write(
     max_token_type: i32,
     out: &mut [i32],
 ) -> Written
-    ensures { λ r. ⌜ with r (now (out .exit)) ≡ spec.write
+    ensures { λ r. ⌜ Writes
         (nine (now (states .entry)) (now (edges .entry)) (now (ranges .entry)) (now (sets .entry)) (now (rules .entry)) (now (modes .entry)) (now (decisions .entry)) (now (actions .entry)) [])
-        (nine «states_count» «edges_count» «ranges_count» «sets_count» «rules_count» «modes_count» «decisions_count» «actions_count» 0) «max_token_type» (length (now (out .entry))) ⌝ }
+        (nine «states_count» «edges_count» «ranges_count» «sets_count» «rules_count» «modes_count» «decisions_count» «actions_count» 0) «max_token_type» (length (now (out .entry))) (writing r (now (out .exit))) ⌝ }
 {
     let writable = fine::writable(
         states,

@@ -108,11 +108,52 @@ fn linked_in(
     marked(states, n, edges, m, rules, k, scratch)
 }
 
-// Words for the rules' stops, three a rule, and then for the search, four a state; there are 65,536 of either at most.
+// Words for the rules' stops, three a rule, and then for the search, four a state. There are 65,536 of either at most; most dialects have
+// fewer than 1,024, and do not wait until a mebibyte is laid out.
 fn blank() -> [i32; 262144]
     ensures { λ r. ⌜ 262144 ≡ length r ⌝ }
 {
     [0; 262144]
+}
+
+fn small_blank() -> [i32; 4096]
+    ensures { λ r. ⌜ 4096 ≡ length r ⌝ }
+{
+    [0; 4096]
+}
+
+fn linked_large(
+    states: &[i32],
+    n: usize,
+    edges: &[i32],
+    m: usize,
+    rules: &[i32],
+    k: usize,
+    c: usize,
+) -> bool
+    requires { ⌜ (Listed 8 n (length (now states))) × (Listed 8 m (length (now edges))) × (Listed 3 k (length (now rules))) × (c ≤ 65536) ⌝ }
+    ensures { λ r. ⌜ r ≡ (joinedIn n m k c (now (states .entry)) (now (edges .entry)) (now (rules .entry)) && markedIn n m k (now (states .entry)) (now (edges .entry)) (now (rules .entry))) ⌝ }
+{
+    let mut space = blank();
+    let scratch: &mut [i32] = &mut space;
+    linked_in(states, n, edges, m, rules, k, c, scratch)
+}
+
+fn linked_small(
+    states: &[i32],
+    n: usize,
+    edges: &[i32],
+    m: usize,
+    rules: &[i32],
+    k: usize,
+    c: usize,
+) -> bool
+    requires { ⌜ (Listed 8 n (length (now states))) × (Listed 8 m (length (now edges))) × (Listed 3 k (length (now rules))) × (c ≤ 65536) × (n ≤ 1024) × (k ≤ 1024) ⌝ }
+    ensures { λ r. ⌜ r ≡ (joinedIn n m k c (now (states .entry)) (now (edges .entry)) (now (rules .entry)) && markedIn n m k (now (states .entry)) (now (edges .entry)) (now (rules .entry))) ⌝ }
+{
+    let mut space = small_blank();
+    let scratch: &mut [i32] = &mut space;
+    linked_in(states, n, edges, m, rules, k, c, scratch)
 }
 
 // Whether the states, the edges and the rules are linked as a decode links them.
@@ -128,7 +169,11 @@ pub fn linked(
     requires { ⌜ (Listed 8 n (length (now states))) × (Listed 8 m (length (now edges))) × (Listed 3 k (length (now rules))) × (c ≤ 65536) ⌝ }
     ensures { λ r. ⌜ r ≡ (joinedIn n m k c (now (states .entry)) (now (edges .entry)) (now (rules .entry)) && markedIn n m k (now (states .entry)) (now (edges .entry)) (now (rules .entry))) ⌝ }
 {
-    let mut space = blank();
-    let scratch: &mut [i32] = &mut space;
-    linked_in(states, n, edges, m, rules, k, c, scratch)
+    if n > 1024 {
+        return linked_large(states, n, edges, m, rules, k, c);
+    }
+    if k > 1024 {
+        return linked_large(states, n, edges, m, rules, k, c);
+    }
+    linked_small(states, n, edges, m, rules, k, c)
 }

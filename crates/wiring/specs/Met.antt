@@ -200,10 +200,10 @@ module _ (tables : Table → List ℤ) (counts : Table → ℕ) (w : Joined (giv
       let x = chain-are es s e .0 (at-mem i (chain es s) h) in
       let k : e < counts Edges = omega (arith, x .0, long) in
       let nx : numberAt (tables Edges) (8 * e + edNext) ≡ spot (first (drop (suc i) (chain es s))) =
-          ap spot (edge-word tables counts e edNext k (omega arith)
-          ∙ chained T (pos 0) w .next-edge e (x .0)
-          ∙ ap (λ (t : ℕ). next es t e) (x .1)
-          ∙ next-in es s i h) in
+      ap spot (edge-word tables counts e edNext k (omega arith)
+      ∙ chained T (pos 0) w .next-edge e (x .0)
+      ∙ ap (λ (t : ℕ). next es t e) (x .1)
+      ∙ next-in es s i h) in
       ap (λ (l : List ℕ). metOn (counts States) (counts Edges) (counts Rules) (tables States) (tables Edges) (tables Rules) o (suc left) (spot (first l)) j) (drop-cons (chain es s) i 0 h)
       ∙ rw (lt-ltb e (counts Edges) k, nx, met-is e j k) (on-is s left (suc i) (behind es (mine e) j) (omega arith))
       ∙ sym (behind-append es (mine e) (each mine (drop (suc i) (chain es s))) j)

@@ -33,7 +33,11 @@ fn stands(edges: &[i32], m: usize, s: usize, low: usize, j: usize) -> bool
 fn ends(next: i32, last: i32, before: i32) -> bool
     ensures { λ r. ⌜ r ≡ (same next none && same last before) ⌝ }
 {
-    if tables::equal(next, -1) { tables::equal(last, before) } else { false }
+    if tables::equal(next, -1) {
+        tables::equal(last, before)
+    } else {
+        false
+    }
 }
 
 // The chain of the state s: so many edges from `first` on.

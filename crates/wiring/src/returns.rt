@@ -50,7 +50,11 @@ fn meet(
         return m + 1;
     }
     let follow = tables::size_at(edges, edge::WIDTH * e + edge::Q);
-    if is_return(edges, j, stop, follow) { j + 1 } else { m + 1 }
+    if is_return(edges, j, stop, follow) {
+        j + 1
+    } else {
+        m + 1
+    }
 }
 
 // Behind those of the first o edges in the chain of the state s.

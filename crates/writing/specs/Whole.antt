@@ -15,7 +15,6 @@ use Rattle.format.specs.Links.{numbers, those}
 use Rattle.format.specs.Tables.{nine, width}
 use Rattle.format.specs.Places.{seFirst, seCount}
 use Rattle.format.specs.Writing.{cell, stateBack, ruleBack, stateNamed, edgeBack, actionBack, flag1, flag2, own, recovered, rowsOf, given, Writing, unwritten, wrote}
-use Rattle.format.specs.declared.Written.{Written}
 use Rattle.rewriting.specs.Formed.{natural, kept}
 use Rattle.rewriting.specs.Tests.{right}
 use Rattle.rewriting.specs.Passes.{setsFrom, setsFine}
@@ -45,10 +44,6 @@ unfolding readOff recovered
 off-recovered st ed ra se ru mo de ac n m o a s r u d c token e = rw e refl
 
 -- ---- the answer
-
--- What was told, and what was left in the output.
-abbrev pub with : Written → List ℤ → Writing
-with told left = record { told = told; left = left }
 
 -- "16 exactly when the output is too short": of m words.
 abbrev pub answer : List ℤ → ℕ → Writing

@@ -11,10 +11,10 @@ ghost use Prim.Native.Nat.{ℕ, _≤_, _^_};
 ghost use lib.IntN.{ℤ, pos};
 ghost use lib.ListN.{length};
 ghost use Rattle.format.specs.Tables.{nine};
-ghost use Rattle.format.specs.Writing.{rowsOf, wordsOf};
+ghost use Rattle.format.specs.Writing.{rowsOf, wordsOf, writing};
 ghost use Rattle.writing.specs.Laid.{Lays};
 ghost use Rattle.writing.specs.Parts.{Few, inSets};
-ghost use Rattle.writing.specs.Whole.{readOff, with, answer};
+ghost use Rattle.writing.specs.Whole.{readOff, answer};
 use format::Written;
 
 // Version 4, a lexer, and the max token type.
@@ -69,7 +69,7 @@ pub fn write_words(
 // The answer once the n words are put: "16 exactly when the output is too short", which is then all zero; else the output behind them is.
 pub fn finish(out: &mut [i32], n: usize) -> Written
     ensures { λ r. ⌜ ((most : ℕ) (ws old : List ℤ) → Lays most 0 ws old (now (out .entry)) n
-        → with r (now (out .exit)) ≡ answer ws (length old)) ⌝ }
+        → writing r (now (out .exit)) ≡ answer ws (length old)) ⌝ }
 {
     if out.len() < n {
         tables::clear(out);

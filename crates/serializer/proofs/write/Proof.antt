@@ -10,6 +10,7 @@ use Rattle.format.specs.Reading.{States, Edges, Ranges, Sets, Rules, Modes, Dec
 use Rattle.format.specs.Tables.{nine}
 use Rattle.format.specs.Writing.{rowsOf, wordsOf}
 use Rattle.words.proofs.Signs.{back32}
+use Rattle.rewriting.specs.Written.{writes-by}
 use Rattle.checking.proofs.Tested.{failed, passed}
 use Rattle.wiring.specs.Marked.{own-few}
 use Rattle.writing.specs.Whole.{off-recovered, fine-inside}
@@ -20,7 +21,7 @@ use Rattle.serializer.proofs.write.Tie as tie
 returns : tie.Need-returns
 returns c =
     let a = c .before .before .before .before .before .before .args in
-    write-refused (nine (now (a .states)) (now (a .edges)) (now (a .ranges)) (now (a .sets)) (now (a .rules)) (now (a .modes)) (now (a .decisions)) (now (a .actions)) []) (nine (a .states-count) (a .edges-count) (a .ranges-count) (a .sets-count) (a .rules-count) (a .modes-count) (a .decisions-count) (a .actions-count) 0) (a .max-token-type) (length (now (a .out))) (failed (c .before .before .before .before .before .writable .ensures (a .max-token-type)) (c .before .before .before .before .if1 .taken)) (c .refused .ensures) (c .before .before .clear .ensures)
+    writes-by (nine (now (a .states)) (now (a .edges)) (now (a .ranges)) (now (a .sets)) (now (a .rules)) (now (a .modes)) (now (a .decisions)) (now (a .actions)) []) (nine (a .states-count) (a .edges-count) (a .ranges-count) (a .sets-count) (a .rules-count) (a .modes-count) (a .decisions-count) (a .actions-count) 0) (a .max-token-type) (length (now (a .out))) _ (write-refused (nine (now (a .states)) (now (a .edges)) (now (a .ranges)) (now (a .sets)) (now (a .rules)) (now (a .modes)) (now (a .decisions)) (now (a .actions)) []) (nine (a .states-count) (a .edges-count) (a .ranges-count) (a .sets-count) (a .rules-count) (a .modes-count) (a .decisions-count) (a .actions-count) 0) (a .max-token-type) (length (now (a .out))) (failed (c .before .before .before .before .before .writable .ensures (a .max-token-type)) (c .before .before .before .before .if1 .taken)) (c .refused .ensures) (c .before .before .clear .ensures))
 
 -- what the tests have shown
 shown : (c : tie.Else1) → let a = c .before .before .args in Passed (nine (now (a .states)) (now (a .edges)) (now (a .ranges)) (now (a .sets)) (now (a .rules)) (now (a .modes)) (now (a .decisions)) (now (a .actions)) []) (nine (a .states-count) (a .edges-count) (a .ranges-count) (a .sets-count) (a .rules-count) (a .modes-count) (a .decisions-count) (a .actions-count) 0)
@@ -37,8 +38,7 @@ write-words-requires c κs =
     let p = shown (c .before .before) in
     let l = p .lie in
     let few = p .few in
-    let own = own-few (a .edges-count) (now (a .edges)) in
-    (
+    let own = own-few (a .edges-count) (now (a .edges)) in (
       (l .states, few States),
       (omega (arith, l .edges, own, c .before .own-count .ensures), omega (arith, few Edges, own, c .before .own-count .ensures)),
       (l .ranges, few Ranges),
@@ -57,9 +57,10 @@ returns-2 c =
     let d = c .before .before .before .before .before .before .before in
     let own = c .before .before .before .before .before .before .own-count in
     let first = shown d .own ∙ ap (λ (o : ℕ). rowsOf 8 o (now (a .edges))) (sym (own .ensures)) in
-    c .before .finish .ensures _ _ _ (rw (back32 (a .max-token-type) (s .fits .max-token-type .sfits)) at (c .before .before .before .before .write-words .ensures))
+    writes-by (nine (now (a .states)) (now (a .edges)) (now (a .ranges)) (now (a .sets)) (now (a .rules)) (now (a .modes)) (now (a .decisions)) (now (a .actions)) []) (nine (a .states-count) (a .edges-count) (a .ranges-count) (a .sets-count) (a .rules-count) (a .modes-count) (a .decisions-count) (a .actions-count) 0) (a .max-token-type) (length (now (a .out))) _
+    (c .before .finish .ensures _ _ _ (rw (back32 (a .max-token-type) (s .fits .max-token-type .sfits)) at (c .before .before .before .before .write-words .ensures))
     ∙ write-answers (nine (now (a .states)) (now (a .edges)) (now (a .ranges)) (now (a .sets)) (now (a .rules)) (now (a .modes)) (now (a .decisions)) (now (a .actions)) []) (nine (a .states-count) (a .edges-count) (a .ranges-count) (a .sets-count) (a .rules-count) (a .modes-count) (a .decisions-count) (a .actions-count) 0) (a .max-token-type) (length (now (a .out))) (passed (d .before .writable .ensures (a .max-token-type)) (d .if1 .left))
-    (ap wordsOf (off-recovered (now (a .states)) (now (a .edges)) (now (a .ranges)) (now (a .sets)) (now (a .rules)) (now (a .modes)) (now (a .decisions)) (now (a .actions)) (a .states-count) (a .edges-count) (own .result) (a .ranges-count) (a .sets-count) (a .rules-count) (a .modes-count) (a .decisions-count) (a .actions-count) (a .max-token-type) first))
+    (ap wordsOf (off-recovered (now (a .states)) (now (a .edges)) (now (a .ranges)) (now (a .sets)) (now (a .rules)) (now (a .modes)) (now (a .decisions)) (now (a .actions)) (a .states-count) (a .edges-count) (own .result) (a .ranges-count) (a .sets-count) (a .rules-count) (a .modes-count) (a .decisions-count) (a .actions-count) (a .max-token-type) first)))
 
 pub write-spec : {M : Type 1} → statement M
 write-spec =

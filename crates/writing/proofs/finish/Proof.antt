@@ -9,12 +9,13 @@ use lib.Seq.{take-at, drop-length}
 use borrow.Author.Needs.{needs}
 use borrow.Author.Tests.{lt-ltb, le-ltb}
 use borrow.Rule.Slice.PartMut.{midOf, postOf, putMid, post-is, mid-len}
+use Rattle.format.specs.Writing.{writing}
 use Rattle.format.specs.Reading.{refusal}
 use Rattle.format.specs.Tables.{zeros}
 use Rattle.format.specs.declared.Refusal.{Refusal}
 use Rattle.format.specs.declared.Written.the-variants as W
 use Rattle.writing.specs.Laid.{Lays, lays-long, laid-fits}
-use Rattle.writing.specs.Whole.{with, answer}
+use Rattle.writing.specs.Whole.{answer}
 use Rattle.writing.proofs.finish.Statement.{statement}
 use Rattle.writing.proofs.finish.Tie as tie
 
@@ -22,7 +23,7 @@ module _ {most n : ℕ} {ws old out : List ℤ} (x : Lays most 0 ws old out n) w
   count : n ≡ length ws
   count = omega (arith, x .next)
 
-  short : {q : Refusal} {new : List ℤ} → length out < n → q ≡ refusal 16 0 0 (pos 0) → new ≡ zeros (length out) → with (W.Refused q) new ≡ answer ws (length old)
+  short : {q : Refusal} {new : List ℤ} → length out < n → q ≡ refusal 16 0 0 (pos 0) → new ≡ zeros (length out) → writing (W.Refused q) new ≡ answer ws (length old)
   short h e z = rw (lt-ltb (length old) (length ws) (omega (arith, count, lays-long x)), e, z, lays-long x) refl
 
   front : n ≤ length out → take n out ≡ ws
@@ -31,7 +32,7 @@ module _ {most n : ℕ} {ws old out : List ℤ} (x : Lays most 0 ws old out n) w
   behind : n ≤ length out → postOf n (length out - n) out ≡ []
   behind h = post-is n (length out) out h ∙ drop-length out
 
-  whole : {zs : List ℤ} → n ≤ length out → zs ≡ zeros (length (midOf n (length out - n) out)) → with (W.Wrote n) (putMid n (length out - n) out zs) ≡ answer ws (length old)
+  whole : {zs : List ℤ} → n ≤ length out → zs ≡ zeros (length (midOf n (length out - n) out)) → writing (W.Wrote n) (putMid n (length out - n) out zs) ≡ answer ws (length old)
   whole {zs} h z =
       rw (le-ltb (length old) (length ws) (omega (arith, count, lays-long x)), front h, behind h, append-nil zs, z, mid-len n (length out) out (omega arith), lays-long x, count) refl
 

@@ -15,8 +15,7 @@ marked-requires : tie.Need-marked-requires
 marked-requires c κs =
     let s = c .before .before .before .before .before in
     let p = s .pre .0 in
-    let a = s .args in
-    (
+    let a = s .args in (
       (p .0, p .1, p .2, omega (arith, s .pre .1 .1, c .before .before .before .joined .kept .1 .1 .1 .1 .1 .1 .1 .0)),
       joined-linked (a .n) (a .m) (a .k) (a .c) (now (a .states)) (now (a .edges)) (now (a .rules)) (p .0 .few) (p .1 .few) (p .2 .few) (p .3) (p .0 .all) (p .1 .all) (p .2 .all) (passed (c .before .before .before .joined .ensures) (c .before .if1 .left)),
     )
