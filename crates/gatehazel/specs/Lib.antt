@@ -1,2 +1,3 @@
--- What `decode` promises, beyond its own statement.
+-- What `decode` and `write` promise, beyond their own statements.
 pub mod Demand3
+pub mod Rewritten
