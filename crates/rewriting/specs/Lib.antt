@@ -18,3 +18,4 @@ pub mod Climbs
 pub mod Checks
 pub mod Flat
 pub mod Rowed
+pub mod Bits
