@@ -52,7 +52,8 @@ uint32_t gatehazel_decode(const int32_t *words, size_t words_len,
  * set's EOF flag is 0, and -1 is one of its ranges; c of edge types 2 and 5 is 0; an absent rule or action is -1; unused arguments are 0.
  * 0: answer = the number of words; `out` holds them, and zeros behind them. Decoded in the same room, those words give the same records.
  * Else 15, whatever `out_len` is, or 16: answer = number; `out` is all zero. What `out` held before never matters.
- * There is no scratch: to find tail calls it takes about 1 MiB of stack (262,144 words, 1,048,576 bytes). */
+ * The words can be more than the list had that was decoded: a set's EOF flag becomes a range, two words more.
+ * There is no scratch: what the search for tail calls needs stands on the stack, of which a call takes about 1,054,000 bytes. */
 uint32_t gatehazel_write(const int32_t *states, size_t states_len, size_t states_count,
     const int32_t *edges, size_t edges_len, size_t edges_count, const int32_t *ranges, size_t ranges_len, size_t ranges_count,
     const int32_t *sets, size_t sets_len, size_t sets_count, const int32_t *rules, size_t rules_len, size_t rules_count,

@@ -1,0 +1,2 @@
+-- The bytes of words that are put out.
+pub mod Spelled
