@@ -230,6 +230,9 @@ fn compare(run: &mut Run, options: &Options) {
     judged::seeded(run, options.count / 20);
     run.begin("seeded lists");
     all_seeded(run, options.count);
+    // a part that met nothing would pass by itself
+    let unmet = [run.summary.judged.missing(), run.summary.unwritten()].concat();
+    unmet.iter().for_each(|what| run.plain_mismatch(what));
 }
 
 fn main() -> ExitCode {

@@ -91,7 +91,6 @@ pub fn by_hand(run: &mut Run) {
             run.plain_mismatch(&format!("of the damaged tables of {name} all are writable, or none is"));
         }
     }
-    run.summary.judged.missing().into_iter().for_each(|what| run.plain_mismatch(&what));
 }
 
 /// A word of a record, mostly one near it.

@@ -35,11 +35,23 @@ fn with_ranges(n: usize) -> Net {
     Net { sets, ..Net::default() }
 }
 
+/// n states in a row behind a call, so that the search for its tail call goes through all of them; and n rules, of which the last is called.
+fn with_search(n: usize) -> Net {
+    let mut states = vec![state(2, 0), state(7, 0)];
+    states.resize(n, state(1, 0));
+    let row = (2..n).map(|s| eps(s as i32, if s + 1 < n { s as i32 + 1 } else { 1 }));
+    let edges = std::iter::once(call(0, 0, 2)).chain(row).collect();
+    Net { states, rules: vec![[0, 1]; n], edges, ..Net::default() }
+}
+
 /// Where a count stands behind a header and zeros, the words that follow it being none.
 const COUNTS: [usize; 7] = [0, 3, 4, 5, 6, 7, 8];
 
 pub fn large(run: &mut Run, rooms: usize) {
     let care = Care { rooms, questions: 0, again: 0, most: VAST };
+    for n in [1023, 1024, 1025, 30000] {
+        run.list("a search through many states", &with_search(n).words(), care);
+    }
     for n in [MOST_ROOM, MOST_ROOM + 1] {
         for (_, build) in TABLES {
             run.list("about 65,536 records", &build(n).words(), care);

@@ -192,8 +192,8 @@ impl Run {
         if care.questions > 0 {
             self.check(family, &told, Check::Questions(care.questions));
         }
-        if told.answer.is_ok() {
-            self.check(family, &told, Check::Written);
+        if told.answer.is_ok() && !self.check(family, &told, Check::Written) {
+            self.plain_mismatch("the tables of an accepted list were not written");
         }
     }
 

@@ -67,7 +67,11 @@ impl Judged {
         let kinds = (0..damages::KINDS.len()).filter(other);
         let words = (0..8).flat_map(|table| (0..TABLES[table].1).map(move |word| (table, word)));
         let free = words.filter(|word| self.refused.contains(word) == (*word == (RULES, 2)));
+        let several = self.kinds[damages::KINDS.len()].contains(&0).then(|| "tables with several damages are not of both kinds".to_string());
+        let above = (self.kinds[damages::KINDS.len() + 1][0] == 0).then(|| "no table above 65,536 records was judged".to_string());
         kinds.map(|kind| format!("damaged tables are not of the kinds that there are: {}", damages::KINDS[kind].0))
+            .chain(several)
+            .chain(above)
             .chain(free.map(|(table, word)| format!("damaged tables do not show word {word} of {}", TABLES[table].0)))
             .collect()
     }
@@ -246,6 +250,12 @@ impl Summary {
         self.print_intended();
         println!("self-test: {} damages, all caught", self.damages);
         println!("mismatches: {}", self.mismatches);
+    }
+
+    /// What has to be met of writing, and was not: each of the numbers that are printed.
+    pub fn unwritten(&self) -> Vec<String> {
+        let counts = self.writes.iter().chain(&self.same);
+        counts.filter(|&&count| count == 0).map(|_| "one of the numbers of lists that were written is 0".to_string()).collect()
     }
 
     fn print_written(&self) {

@@ -48,12 +48,14 @@ uint32_t gatehazel_decode(const int32_t *words, size_t words_len,
     int64_t *answer, size_t answer_len);
 
 /* Writes the words of a dialect, from the records that it decodes to and its max token type. Of each table the first `_count` records are
- * looked at, and no words behind them; edges count with derived ones, which are not written. There is one form: flagged states ascend; a
- * set's EOF flag is 0, and -1 is one of its ranges; c of edge types 2 and 5 is 0; an absent rule or action is -1; unused arguments are 0.
- * 0: answer = the number of words; `out` holds them, and zeros behind them. Decoded in the same room, those words give the same records.
+ * looked at, and no words behind them; `edges_count` is a decode's answer[3], derived edges included, which are not written. There is one
+ * form: flagged states ascend; a set's EOF flag is 0, and -1 is one of its ranges; c of edge types 2 and 5 is 0; a state without a rule and
+ * an action edge without an action have -1; unused arguments are 0.
+ * 0: answer = the number of words; `out` holds them, and zeros behind them. Decoded into tables with room for these counts, the words give
+ * these records again: pass answer[0] as `words_len`, since the zeros behind are no words.
  * Else 15, whatever `out_len` is, or 16: answer = number; `out` is all zero. What `out` held before never matters.
  * The words can be more than the list had that was decoded: a set's EOF flag becomes a range, two words more.
- * There is no scratch: what the search for tail calls needs stands on the stack, of which a call takes about 1,054,000 bytes. */
+ * There is no scratch: a call takes 1,053,624 bytes of stack, whatever the tables' size. */
 uint32_t gatehazel_write(const int32_t *states, size_t states_len, size_t states_count,
     const int32_t *edges, size_t edges_len, size_t edges_count, const int32_t *ranges, size_t ranges_len, size_t ranges_count,
     const int32_t *sets, size_t sets_len, size_t sets_count, const int32_t *rules, size_t rules_len, size_t rules_count,

@@ -1,4 +1,5 @@
--- Document 01, "Lent tables": the place of each word in its record. The tables' names are cut to two letters, as `nine` has them.
+-- Document 01, "Lent tables": the place of each word in its record. The tables' names are cut to two letters, as `nine` has them;
+-- modes and decisions share `na`.
 use Prim.Native.Nat.{ℕ}
 
 -- states: "type, rule, block end, loop back, flags, first edge, last edge, edge count"

@@ -142,7 +142,8 @@ inside tables counts = eight (λ t. fits t (counts t) (tables t))
 
 -- ---- "15 exactly when a count exceeds its table's whole records or no word list, in any room, decodes to these records"
 
--- Some word list, in some room, decodes to these records.
+-- Some word list, in some room, decodes to these records. The words are of any size; of 32-bit tables 32-bit words do as well (rewriting:
+-- `comes-short`).
 pub record Comes (T : Table → List (List ℤ)) : Type 0 where
   pub lent : Table → ℕ
   pub words : List ℤ
@@ -178,7 +179,8 @@ wrote ws m = writing (W.Wrote (length ws)) (ws ++ zeros (m - length ws))
 abbrev pub unwritten : ℕ → ℕ → Writing
 unwritten number m = writing (W.Refused (refusal number 0 0 (pos 0))) (zeros m)
 
--- "15 exactly when .., tested first; 16 exactly when the output is too short"
+-- "15 exactly when .., tested first; 16 exactly when the output is too short": these three are all there are (rewriting: `writes-only`), and
+-- each is given in its own case alone (`fifteen-only`, `sixteen-only`, `wrote-writable`).
 pub record Writes (tables : Table → List ℤ) (counts : Table → ℕ) (token : ℤ) (m : ℕ) (a : Writing) : Type 0 where
   pub fifteen : (Writable tables counts → ⊥) → a ≡ unwritten 15 m
   pub sixteen : Writable tables counts → m < length (wordsFor tables counts token) → a ≡ unwritten 16 m

@@ -64,7 +64,7 @@ abbrev words0 : List ℤ
 words0 =
     4 ▸ 0 ▸ 1 ▸ 4 ▸ 6 ▸ none ∷ 2 ▸ 0 ▸ 7 ▸ 0 ▸ 1 ▸ 0 ▸ 0 ▸ 0 ▸ 1 ▸ 1 ▸ 1 ▸ 1 ▸ 0 ▸ 1 ▸ 1 ▸ 0 ▸ 48 ▸ 57 ▸ 3 ▸ 0 ▸ 1 ▸ 1 ▸ 0 ▸ 0 ▸ 0 ▸ 1 ▸ 3 ▸ 7 ▸ 0 ▸ 0 ▸ 0 ▸ 3 ▸ 2 ▸ 1 ▸ 0 ▸ 0 ▸ 0 ▸ 1 ▸ 0 ▸ 1 ▸ 6 ▸ 0 ▸ 0 ▸ []
 
--- The whole case with another table in the place of one of its own: 15, whatever the output's length.
+-- The whole case with another table in the place of one of its own: 15, with an output that is too short as well.
 abbrev refusing : (Table → List ℤ) → Case
 refusing tables = case tables counts0 (pos 1) 5 (unwritten 15 5)
 
@@ -108,6 +108,18 @@ looseTables = decoded (nine 24 40 4 2 3 0 0 3 12) loose 0 .left
 abbrev looseCounts : Table → ℕ
 looseCounts = nine 3 5 1 1 1 0 0 1 0
 
+-- ---- two rule edges and their return edges: the one's follow state is the stop, a tail call; the other's is no way out
+
+abbrev callStates : List ℤ
+callStates = 2 ▸ 0 ▸ none ∷ none ∷ 0 ▸ 0 ▸ 1 ▸ 2 ▸ 7 ▸ 0 ▸ none ∷ none ∷ 0 ▸ 2 ▸ 3 ▸ 2 ▸ 1 ▸ 0 ▸ none ∷ none ∷ 0 ▸ none ∷ none ∷ 0 ▸ []
+
+-- With these marks on the first two, and these targets of the last two.
+abbrev callEdges : ℕ → ℕ → ℕ → ℕ → List ℤ
+callEdges a b x y = 3 ▸ 0 ▸ 0 ▸ 0 ▸ 1 ▸ 0 ▸ a ▸ 1 ▸ 3 ▸ 0 ▸ 0 ▸ 0 ▸ 2 ▸ 0 ▸ b ▸ none ∷ 1 ▸ 1 ▸ x ▸ 0 ▸ 0 ▸ 0 ▸ 1 ▸ 3 ▸ 1 ▸ 1 ▸ y ▸ 0 ▸ 0 ▸ 0 ▸ 1 ▸ none ∷ []
+
+abbrev calls : List ℤ → List ℤ → ℕ → Writing → Case
+calls states edges m a = case (nine states edges [] [] (0 ▸ 1 ▸ 1 ▸ []) [] [] [] []) (nine 3 m 0 0 1 0 0 0 0) (pos 0) 38 a
+
 -- ---- the table
 
 abbrev pub cases : List Case
@@ -127,19 +139,33 @@ cases =
     -- flags named twice and downwards, a flagged set, a rule edge with its return edge
     case looseTables looseCounts (pos 7) 58 (wrote fixed 58)
     ∷
+    -- a set that holds the end of input alone
+    case (nine [] [] (none ∷ none ∷ []) (0 ▸ 1 ▸ []) [] [] [] [] []) (nine 0 0 1 1 0 0 0 0 0) (pos 0) 16 (wrote (4 ▸ 0 ▸ 0 ▸ 0 ▸ 0 ▸ 0 ▸ 0 ▸ 0 ▸ 1 ▸ 1 ▸ 0 ▸ none ∷ none ∷ 0 ▸ 0 ▸ 0 ▸ []) 16)
+    ∷
+    -- states with no word behind their type, with a block end, and with a loop back
+    case (nine (0 ▸ none ∷ none ∷ none ∷ 0 ▸ none ∷ none ∷ 0 ▸ 3 ▸ 0 ▸ 5 ▸ none ∷ 0 ▸ none ∷ none ∷ 0 ▸ 12 ▸ 0 ▸ none ∷ 7 ▸ 0 ▸ none ∷ none ∷ 0 ▸ []) [] [] [] [] [] [] [] []) (nine 3 0 0 0 0 0 0 0 0) (pos 0) 19
+    (wrote (4 ▸ 0 ▸ 0 ▸ 3 ▸ 0 ▸ 3 ▸ 0 ▸ 5 ▸ 12 ▸ 0 ▸ 7 ▸ 0 ▸ 0 ▸ 0 ▸ 0 ▸ 0 ▸ 0 ▸ 0 ▸ 0 ▸ []) 19)
+    ∷
+    -- two calls with their return edges, which are not written; one of them is a tail call
+    calls callStates (callEdges 2 0 1 2) 4
+    (wrote (4 ▸ 0 ▸ 0 ▸ 3 ▸ 2 ▸ 0 ▸ 7 ▸ 0 ▸ 1 ▸ 0 ▸ 0 ▸ 0 ▸ 1 ▸ 0 ▸ 1 ▸ 0 ▸ 0 ▸ 2 ▸ 0 ▸ 1 ▸ 3 ▸ 0 ▸ 0 ▸ 0 ▸ 0 ▸ 2 ▸ 3 ▸ 0 ▸ 0 ▸ 0 ▸ 0 ▸ 0 ▸ []) 38)
+    ∷
+    -- 15: the tail call not marked, the other call marked, the return edges in the wrong order, and both left out
+    calls callStates (callEdges 0 0 1 2) 4 (unwritten 15 38)
+    ∷ calls callStates (callEdges 2 2 1 2) 4 (unwritten 15 38)
+    ∷ calls callStates (callEdges 2 0 2 1) 4 (unwritten 15 38)
+    ∷ calls (2 ▸ 0 ▸ none ∷ none ∷ 0 ▸ 0 ▸ 1 ▸ 2 ▸ 7 ▸ 0 ▸ none ∷ none ∷ 0 ▸ none ∷ none ∷ 0 ▸ 1 ▸ 0 ▸ none ∷ none ∷ 0 ▸ none ∷ none ∷ 0 ▸ []) (callEdges 2 0 1 2) 2 (unwritten 15 38)
+    ∷
     -- 15, tested before 16: more rules than the table has
     case whole (nine 4 3 1 1 2 1 1 1 0) (pos 1) 5 (unwritten 15 5)
     ∷
     -- fewer edges than the chains have
     case whole (nine 4 2 1 1 1 1 1 1 0) (pos 1) 5 (unwritten 15 5)
     ∷
-    -- the return edge left out
-    case looseTables (nine 3 4 1 1 1 0 0 1 0) (pos 7) 58 (unwritten 15 58)
-    ∷
     -- a rule's stop is another state
     refusing (withRules (1 ▸ 3 ▸ 1 ▸ []))
     ∷
-    -- a mark 2 where no tail call is
+    -- a mark 2 on an epsilon edge
     refusing (withEdges (1 ▸ 0 ▸ 1 ▸ 0 ▸ 0 ▸ 0 ▸ 2 ▸ none ∷ drop 8 edges0))
     ∷
     -- a next edge that the chain does not have
@@ -147,6 +173,9 @@ cases =
     ∷
     -- flag 4 on a state that is no precedence decision
     refusing (withStates (6 ▸ none ∷ none ∷ none ∷ 4 ▸ drop 5 states0))
+    ∷
+    -- ranges that touch
+    case (nine states0 edges0 (48 ▸ 52 ▸ 53 ▸ 57 ▸ []) (0 ▸ 2 ▸ []) rules0 modes0 decisions0 actions0 []) (nine 4 3 2 1 1 1 1 1 0) (pos 1) 51 (unwritten 15 51)
     ∷
     -- a range that is not in order, and a set that does not begin where it should
     refusing (withRanges (57 ▸ 48 ▸ []))

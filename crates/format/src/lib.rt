@@ -12,7 +12,7 @@ ghost use mathlib.Core.Path.{_≡_};
 ghost use lib.ListN.{getD};
 ghost use Rattle.format.specs.Sections.{follows};
 
-// Why a decode was refused: its number, field, place and value.
+// Why a decode or a writing was refused: its number, field, place and value.
 pub struct Refusal {
     pub number: u32,
     pub field: u32,

@@ -21,7 +21,7 @@ use Rattle.laws.specs.Gives.{Every}
 use Rattle.laws.specs.Lists.{every-append}
 use Rattle.laws.specs.Fits.{Roomed}
 use Rattle.rewriting.specs.Fine.{map-long}
-use Rattle.rewriting.specs.Found.{most, found-exactly}
+use Rattle.rewriting.specs.Found.{most, found-exactly, written-comes}
 use Rattle.rewriting.specs.Checks.{checks-exactly}
 
 abbrev pub W : ℤ → Type 0
@@ -154,3 +154,7 @@ pub comes-fit : (T : Table → List (List ℤ)) (token : ℤ) → ((t : Table) �
 comes-fit T token wide scratch h k c =
     let f = found-exactly T token .1 c in
     words-fit T token h k (checks-exactly T token wide scratch .0 f .1 .wired .joined .few) (f .roomed)
+
+-- so 15 is as exact over lists of such words: where any words decode to these records, 32-bit words do
+pub comes-short : (T : Table → List (List ℤ)) (token : ℤ) → ((t : Table) → Every (Wide (width t)) (T t)) → T Scratch ≡ [] → ((t : Table) → Every (Every W) (T t)) → W token → Comes T → (c : Comes T) × Every W (c .words)
+comes-short T token wide scratch h k c = (written-comes T token (found-exactly T token .1 c), comes-fit T token wide scratch h k c)

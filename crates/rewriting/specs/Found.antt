@@ -25,10 +25,10 @@ abbrev pub most : Table → ℕ
 most t = 65536
 
 -- lent slices that have it
-abbrev amply : Table → ℕ
+abbrev pub amply : Table → ℕ
 amply t = width t * 65536
 
-ample : (t : Table) → room amply t ≡ 65536
+pub ample : (t : Table) → room amply t ≡ 65536
 ample States = refl
 ample Edges = refl
 ample Ranges = refl
@@ -95,8 +95,8 @@ found-run T token f =
 
 -- ---- both ways
 
-found-comes : (T : Table → List (List ℤ)) (token : ℤ) → Found T token → Comes T
-found-comes T token f =
+abbrev pub written-comes : (T : Table → List (List ℤ)) (token : ℤ) → Found T token → Comes T
+written-comes T token f =
     record {
       lent = amply;
       words = wordsOf (recovered T token);
@@ -120,7 +120,7 @@ comes-found T token c =
     })
 
 pub found-exactly : (T : Table → List (List ℤ)) (token : ℤ) → Found T token ↔ Comes T
-found-exactly T token = (found-comes T token, comes-found T token)
+found-exactly T token = (written-comes T token, comes-found T token)
 
 -- ---- `comes` computes it
 

@@ -1,5 +1,5 @@
 -- Refusal 15 as the code decides it: tests of single records, of chains and of sets, each made in one pass over a lent table.
--- Nobody has to believe these: Exactly shows that they hold together exactly where some words decode to the records.
+-- Nobody has to believe these: they hold together exactly where some words decode to the records (serializer: Exactly, `passes-comes`).
 use mathlib.Core.List.{List, [], _∷_}
 use mathlib.Core.Bool.{Bool, true, _&&_}
 use Prim.Native.Nat.{ℕ, zero, suc, _+_, _*_}
@@ -34,9 +34,9 @@ edgeFine n x = natural (cell x edKind) && names n (cell x edSource) && natural (
 abbrev pub edgesFine : ℕ → ℕ → List ℤ → Bool
 edgesFine n m ed = all m (λ i. edgeFine n (rowAt 8 ed i))
 
--- p, q and r of the first o edges; k sets are listed
+-- p, q and r of m edges, derived ones too; k sets are listed
 abbrev pub argumentsFine : ℕ → ℕ → List ℤ → Bool
-argumentsFine k o ed = all o (λ i. argsRead k (edgeBack (rowAt 8 ed i)))
+argumentsFine k m ed = all m (λ i. argsRead k (edgeBack (rowAt 8 ed i)))
 
 abbrev pub startsFine : ℕ → List ℤ → Bool
 startsFine k ru = all k (λ R. natural (cell (rowAt 3 ru R) ruStart))

@@ -66,7 +66,7 @@ module _ {A : Type 0} (p : ℕ → Bool) where
 among-ascending : (ss : List State) (l : List ℕ) (s : ℕ) → s < length ss → among s (ascending ss l) ≡ among s l
 among-ascending ss l s h = passing-is (λ s. among s l) 0 ss s (omega arith) (omega arith)
 
--- ---- (2) the same records
+-- ---- the same records
 
 gate : (a t c d : Bool) → (t ≡ true → c ≡ d) → (a && t && c) ≡ (a && t && d)
 gate true true c d h = h refl
@@ -117,7 +117,7 @@ pub plain-roomed : (room : Table → ℕ) (r : Read) → Roomed room r → Roome
 unfolding plain
 plain-roomed room r m = record { states = m .states; edges = m .edges; ranges = m .ranges; sets = m .sets; rules = m .rules; modes = m .modes; decisions = m .decisions; actions = m .actions }
 
--- ---- (3) found again
+-- ---- found again
 
 pub back : {A B : Type 0} (g : B → A) (i : ℕ) (f : ℕ → A → B) (l : List A) → ((j : ℕ) (a : A) → g (f j a) ≡ a) → map g (numbered i f l) ≡ l
 back g i f [] h = refl

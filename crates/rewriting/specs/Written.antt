@@ -1,34 +1,38 @@
 -- The laws of `write`: its answers by their meaning, and what a decode makes of what was written from a decode's tables.
 use mathlib.Core.Path.{_≡_, refl, sym, ap, _∙_, subst}
-use mathlib.Core.List.{List, [], _∷_, _++_, append-assoc}
+use mathlib.Core.List.{List, [], _∷_, _++_, append-assoc, append-nil}
 use mathlib.Core.Bool.{Bool, true, false, _&&_}
 use mathlib.Core.Logic.{_↔_, ⊎-elim}
-use Prim.Native.Nat.{ℕ, _-_, _*_, _/_, _≤_}
+use Prim.Native.Nat.{ℕ, _-_, _*_, _/_, _≤_, _<_}
 use native.Mathlib.Omega.{arith}
 use lib.Dec.{ltb}
-use lib.IntN.{ℤ}
-use lib.ListN.{length}
+use lib.IntN.{ℤ, pos}
+use lib.ListN.{length, length-append}
 use lib.Seq.{take-at, drop-at}
 use borrow.Author.Tests.{lt-ltb, le-ltb, le-leb}
 use Rattle.format.specs.declared.Counts.{Counts}
 use Rattle.format.specs.declared.Decoded.the-variants as D
-use Rattle.format.specs.Reading.{Table, States, Edges, Ranges, Sets, Rules, Modes, Decisions, Actions, Scratch, pick}
+use Rattle.format.specs.declared.Written.{Written}
+use Rattle.format.specs.declared.Written.the-variants as W
+use Rattle.format.specs.Answers.{ofWritten}
+use Rattle.format.specs.Reading.{Outcome, ok, run, refusal, Table, States, Edges, Ranges, Sets, Rules, Modes, Decisions, Actions, Scratch, pick}
 use Rattle.format.specs.Sections.{Read, bit}
 use Rattle.format.specs.Links.{flat}
-use Rattle.format.specs.Tables.{nine, width, room, edgesOf, stateWords, edgeWords, rangeWords, ruleWords, stateWord, actionWords, records, table, zeros, countsOf}
-use Rattle.format.specs.Decode.{answer, decoded}
+use Rattle.format.specs.Tables.{nine, width, room, derivedOf, edgesOf, stateWords, edgeWords, rangeWords, ruleWords, stateWord, actionWords, records, table, zeros, countsOf}
+use Rattle.format.specs.Decode.{dialect, answer, decoded}
 use Rattle.format.specs.Questions.{fits}
-use Rattle.format.specs.Writing.{wordsOf, recovered, rowsOf, given, inside, Writable, wordsFor, Writing, wrote, unwritten, Writes, comes, write}
+use Rattle.format.specs.Writing.{wordsOf, recovered, rowsOf, given, inside, Comes, Writable, wordsFor, Writing, wrote, unwritten, Writes, comes, write}
 use Rattle.laws.specs.Gives.{Every}
 use Rattle.laws.specs.Rows.{Wide, numbered-long}
 use Rattle.laws.specs.Order.{order}
-use Rattle.laws.specs.Fits.{records-wide, records-room, room-words, read-roomed, sets-long, as-long}
+use Rattle.laws.specs.Fits.{Roomed, records-wide, records-room, room-words, read-roomed, sets-long, as-long}
 use Rattle.laws.specs.Demand3.{Accepting, accepting}
 use Rattle.rewriting.specs.Formed.{plain}
 use Rattle.rewriting.specs.Tests.{both, left, right, all-eight}
 use Rattle.rewriting.specs.Plain.{plain-records, plain-counts}
 use Rattle.rewriting.specs.Laws.{written, decodes-again, same-written}
-use Rattle.rewriting.specs.Found.{comes-exactly}
+use Rattle.rewriting.specs.Found.{found-exactly, comes-exactly}
+use Rattle.rewriting.specs.Whole.{words-run}
 
 -- ---- "15 exactly when .., tested first; 16 exactly when the output is too short"
 
@@ -71,6 +75,59 @@ module _ (tables : Table → List ℤ) (counts : Table → ℕ) (token : ℤ) (m
       go true e =
           let w = test-exactly .0 e in
           ⊎-elim (λ (k : length (wordsFor tables counts token) ≤ m). h .words w k ∙ sym (writes .words w k)) (λ k. h .sixteen w k ∙ sym (writes .sixteen w k)) (order (length (wordsFor tables counts token)) m)
+
+-- ---- "exactly": each answer's other direction
+
+module _ (tables : Table → List ℤ) (counts : Table → ℕ) (token : ℤ) (m : ℕ) (a : Writing) (h : Writes tables counts token m a) where
+  -- an answer other than 15 is given of what can be written alone
+  pub not-fifteen : (a .told ≡ W.Refused (refusal 15 0 0 (pos 0)) → ⊥) → Writable tables counts
+  not-fifteen never = go (inside tables counts && comes (given tables counts) token) refl
+    where
+      go : (b : Bool) → (inside tables counts && comes (given tables counts) token) ≡ b → Writable tables counts
+      go true e = test-exactly tables counts token m .0 e
+      go false e = absurd (never (ap (λ (x : Writing). x .told) (h .fifteen (λ w. let z : _≡_ {A = ℕ} (bit true) (bit false) = ap bit (sym (test-exactly tables counts token m .1 w) ∙ e) in omega arith))))
+
+  -- 15 is given of nothing that can be written
+  pub fifteen-only : a .told ≡ W.Refused (refusal 15 0 0 (pos 0)) → Writable tables counts → ⊥
+  fifteen-only e w =
+      ⊎-elim
+      (λ (k : length (wordsFor tables counts token) ≤ m). other (sym e ∙ ap (λ (x : Writing). x .told) (h .words w k)))
+      (λ k. another (sym e ∙ ap (λ (x : Writing). x .told) (h .sixteen w k)))
+      (order (length (wordsFor tables counts token)) m)
+    where
+      other : {i : ℕ} → W.Refused (refusal 15 0 0 (pos 0)) ≡ W.Wrote i → ⊥
+      other q = let z : _≡_ {A = ℕ} 0 1 = cc in omega arith
+
+      another : W.Refused (refusal 15 0 0 (pos 0)) ≡ W.Refused (refusal 16 0 0 (pos 0)) → ⊥
+      another q = let z = ap (λ (w : Written). ofWritten w .number) q in omega arith
+
+  -- what was written can be, and is those words
+  pub wrote-writable : {n : ℕ} → a .told ≡ W.Wrote n → Writable tables counts
+  wrote-writable {n} e = not-fifteen (λ q. other (sym e ∙ q))
+    where
+      other : {i : ℕ} → W.Wrote i ≡ W.Refused (refusal 15 0 0 (pos 0)) → ⊥
+      other q = let z : _≡_ {A = ℕ} 0 1 = cc in omega arith
+
+  pub wrote-words : {n : ℕ} → a .told ≡ W.Wrote n → a ≡ wrote (wordsFor tables counts token) m
+  wrote-words {n} e =
+      let w = wrote-writable e in
+      ⊎-elim (h .words w) (λ k. absurd (other (sym e ∙ ap (λ (x : Writing). x .told) (h .sixteen w k)))) (order (length (wordsFor tables counts token)) m)
+    where
+      other : {i : ℕ} → W.Wrote i ≡ W.Refused (refusal 16 0 0 (pos 0)) → ⊥
+      other q = let z : _≡_ {A = ℕ} 0 1 = cc in omega arith
+
+  -- 16 is given of what can be written alone, and where the output is too short
+  pub sixteen-only : a .told ≡ W.Refused (refusal 16 0 0 (pos 0)) → Writable tables counts × (m < length (wordsFor tables counts token))
+  sixteen-only e = (w, ⊎-elim (λ (k : length (wordsFor tables counts token) ≤ m). absurd (other (sym e ∙ ap (λ (x : Writing). x .told) (h .words w k)))) (λ k. k) (order (length (wordsFor tables counts token)) m))
+    where
+      other : {i : ℕ} → W.Refused (refusal 16 0 0 (pos 0)) ≡ W.Wrote i → ⊥
+      other q = let z : _≡_ {A = ℕ} 0 1 = cc in omega arith
+
+      another : W.Refused (refusal 16 0 0 (pos 0)) ≡ W.Refused (refusal 15 0 0 (pos 0)) → ⊥
+      another q = let z = ap (λ (w : Written). ofWritten w .number) q in omega arith
+
+      w : Writable tables counts
+      w = not-fifteen (λ q. another (sym e ∙ q))
 
 -- ---- records in a row, taken apart
 
@@ -237,3 +294,44 @@ same-again lent ws at c e lent′ ws′ at′ c′ e′ = (to, fro)
 
     fro : ((t : Table) → held lent ws at c t ≡ held lent′ ws′ at′ c′ t) × (c .token ≡ c′ .token) → again lent ws at c ≡ again lent′ ws′ at′ c′
     fro x = λ i. wordsOf (recovered (λ t. x .0 t i) (x .1 i))
+
+-- ---- any tables that were written
+
+-- room for the records is room for what was read
+roomed-by : (rooms : Table → ℕ) (r : Read) → ((t : Table) → length (records r t) ≤ rooms t) → Roomed rooms r
+unfolding records
+roomed-by rooms r few =
+    record {
+      states = omega (arith, few States, numbered-long 0 (stateWords r (edgesOf r)) (r .states));
+      edges = omega (arith, few Edges, numbered-long 0 (edgeWords r (edgesOf r)) (edgesOf r), length-append (r .edges) (derivedOf r));
+      ranges = omega (arith, few Ranges, numbered-long 0 (λ i a. rangeWords a) (flat (r .sets)));
+      sets = omega (arith, few Sets, sets-long 0 (r .sets));
+      rules = omega (arith, few Rules, numbered-long 0 (ruleWords r) (r .rules));
+      modes = omega (arith, few Modes, numbered-long 0 (λ i a. stateWord a) (r .modes));
+      decisions = omega (arith, few Decisions, numbered-long 0 (λ i a. stateWord a) (r .decisions));
+      actions = omega (arith, few Actions, numbered-long 0 (λ i a. actionWords a) (r .actions));
+    }
+
+-- what is decoded of the words of any writable tables, in any room that their records have: those records, and that max token type
+pub record Reads (lent : Table → ℕ) (ws : List ℤ) (T : Table → List (List ℤ)) (token : ℤ) : Type 0 where
+  pub counts : Counts
+  pub told : decoded lent ws 0 .told ≡ D.Accepted counts
+  pub words : counts .words ≡ length ws
+  pub token-is : counts .token ≡ token
+  pub records-are : (t : Table) → given (decoded lent ws 0 .left) (records-counted counts) t ≡ T t
+
+pub written-reads : (T : Table → List (List ℤ)) (token : ℤ) (lent : Table → ℕ) → Comes T → ((t : Table) → length (T t) ≤ room lent t) → Reads lent (wordsOf (recovered T token)) T token
+unfolding decoded countsOf recovered
+written-reads T token lent c h =
+    let f = found-exactly T token .1 c in
+    let r : Read = recovered T token in
+    let m = roomed-by (room lent) (recovered T token) (λ t. omega (arith, ap length (f .same t), h t)) in
+    let ran : run dialect (wordsOf (recovered T token)) (room lent) 0 ≡ ok (recovered T token) (length (wordsOf (recovered T token))) =
+    subst (λ (ws : List ℤ). run dialect ws (room lent) 0 ≡ ok (recovered T token) (length (wordsOf (recovered T token)))) (append-nil (wordsOf (recovered T token))) (words-run (room lent) (recovered T token) (f .formed) m []) in
+    record {
+      counts = countsOf (recovered T token) (length (wordsOf (recovered T token)) - 0);
+      told = ap (λ (o : Outcome Read). answer lent 0 o .told) ran;
+      words = omega arith;
+      token-is = refl;
+      records-are = λ t. ap (λ (o : Outcome Read). given (answer lent 0 o .left) (records-counted (countsOf (recovered T token) (length (wordsOf (recovered T token)) - 0))) t) ran ∙ table-given (recovered T token) (length (wordsOf (recovered T token)) - 0) lent t ∙ f .same t;
+    }
