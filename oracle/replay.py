@@ -1,7 +1,8 @@
 #!/usr/bin/env python3
-"""Writes crates/replay/data/answers.words: word lists, the lengths of the slices to lend, and the oracle's answers, put as
-document 01 puts them (told.py). The program `replay` decodes each list by the library and holds the answer and every word of
-all nine tables to what is stored; it needs no Rust.
+"""Writes crates/replay/data/answers.words: word lists, the lengths of the slices to lend, the oracle's answers, put as document 01
+puts them (told.py), and the words of the accepted tables in document 02's one fixed form (written.py). The program `replay` decodes
+each list by the library and holds the answer and every word of all nine tables to what is stored; it writes the decoded tables, and
+holds these words to the stored ones. It needs no Rust.
 
     python3 oracle/replay.py            writes the file, and says what is in it
     python3 oracle/replay.py --print N  prints the N-th stored case as text
@@ -11,6 +12,7 @@ lent slices that are exactly full, odd, or larger, by turns; and some once more 
 12 is document 01's, since the Rust knows no rooms. The file holds little-endian 32-bit words; a case is
     nine lengths · number of words, words · 0, eleven counts, and for each table the number of its records' words, and these
                                           or number, field, place, value
+                 · number of written words, and these; 0 where the list is refused
 and stands whole in a block of 65,536 words, which words of -1 fill up.
 """
 
@@ -22,6 +24,7 @@ import sys
 
 import lists
 import told
+import written
 
 FILE = os.path.join(lists.HERE, "..", "crates", "replay", "data", "answers.words")
 SAMPLES = ("xpathlexer", "autolevlexer", "latexlexer", "unicode")
@@ -31,6 +34,9 @@ BLOCK = 65536
 
 # The program lends no more words than this of each table.
 MOST = dict(zip(told.TABLES, (16384, 16384, 16384, 2048, 2048, 1024, 1024, 1024, 8192)))
+
+# And it writes into no more words than this, three of them behind those that are stored.
+MOST_WRITTEN = 8192
 
 
 def pairs():
@@ -61,15 +67,17 @@ def short_lengths(one, turn):
 
 
 def answer(one, lent):
-    """The stored answer: the refusal, or the counts and the tables."""
+    """The stored answer: the refusal, or the counts and the tables; and the words of the tables."""
     short = one.short_of_room(lent)
     if short or one.refused:
-        return list(short or one.refused)
+        return [*(short or one.refused), 0]
     words = [0, *one.counts]
     for table in told.TABLES:
         records = [word for record in one.tables[table] for word in record]
         words += [len(records), *records]
-    return words
+    form = written.words_of(one)
+    assert len(form) + 3 <= MOST_WRITTEN
+    return [*words, len(form), *form]
 
 
 def case(one, lent):
@@ -77,7 +85,9 @@ def case(one, lent):
 
 
 def cases():
-    for turn, one in enumerate(told.consult(list(pairs()), most=20000)):
+    all_told = told.consult(list(pairs()), most=20000)
+    written.check([one for one in all_told if not one.refused])
+    for turn, one in enumerate(all_told):
         yield case(one, lengths(one, turn))
         lent = short_lengths(one, turn)
         if lent and turn % 3 == 0 and len(one.words) < 600:
@@ -108,18 +118,20 @@ def split(words):
             behind = end + 12
             for _ in told.TABLES:
                 behind += 1 + words[behind]
-        yield words[at:at + 9], words[at + 10:end], words[end:behind]
-        at = behind
+        last = behind + 1 + words[behind]
+        yield words[at:at + 9], words[at + 10:end], words[end:behind], words[behind + 1:last]
+        at = last
 
 
 def print_case(number):
     with open(FILE, "rb") as file:
         data = file.read()
     stored = struct.unpack("<%di" % (len(data) // 4), data)
-    lent, words, said = next(itertools.islice(split(stored), number, None))
+    lent, words, said, form = next(itertools.islice(split(stored), number, None))
     print("lengths", *lent)
     print("words", *words)
     print("answer", *said)
+    print("written", *form)
 
 
 def main():

@@ -1,5 +1,6 @@
 // One stored case after another. A case is, in words: the lengths of the nine slices; the number of words, and the words; the answer's
 // number. For 0: the eleven counts, and for each of the nine tables the number of its records' words, and these. Else: field, place, value.
+// At last the number of the words that are written of the tables, and these; 0 where the list is refused.
 // A block of the file holds whole cases, and words of -1 behind them.
 
 ghost use Prim.Native.Nat.{_<_, _^_};
@@ -7,6 +8,7 @@ use crate::compare;
 use crate::lending;
 use crate::stored;
 use crate::tally;
+use crate::written;
 use format::Counts;
 use format::Decoded;
 use format::Refusal;
@@ -14,6 +16,13 @@ use format::Refusal;
 // How far a case was compared, and whether all agreed.
 struct Sofar {
     at: usize,
+    same: bool,
+}
+
+// The same of a whole case, and how many words are stored as written of its tables.
+struct Held {
+    at: usize,
+    written: usize,
     same: bool,
 }
 
@@ -121,7 +130,16 @@ fn answer_at(list: &[i32], at: usize) -> usize {
     stored::behind(list, stored::behind(list, at, 10), length(list, at, 9))
 }
 
-// The answer and the tables of the case at a place, held to the stored ones.
+// The answer that is stored at a place, held; its tables stand behind it.
+fn answered(answer: Decoded, list: &[i32], at: usize, accepted: bool) -> Sofar {
+    let behind = if accepted { 12 } else { 4 };
+    Sofar {
+        at: stored::behind(list, at, behind),
+        same: answer_held(answer, list, at, accepted),
+    }
+}
+
+// The answer and the tables of the case at a place, and the words that are written of these, held to the stored ones.
 fn case_held(
     answer: Decoded,
     list: &[i32],
@@ -135,16 +153,11 @@ fn case_held(
     decisions: &[i32],
     actions: &[i32],
     scratch: &[i32],
-) -> Sofar {
+) -> Held {
     let end = answer_at(list, at);
     let accepted = stored::word(list, end) == 0;
-    let behind = if accepted { 12 } else { 4 };
-    let answered = Sofar {
-        at: stored::behind(list, end, behind),
-        same: answer_held(answer, list, end, accepted),
-    };
-    tables_held(
-        answered,
+    let sofar = tables_held(
+        answered(answer, list, end, accepted),
         list,
         at,
         accepted,
@@ -157,7 +170,25 @@ fn case_held(
         decisions,
         actions,
         scratch,
-    )
+    );
+    let form = stored::counted(list, sofar.at);
+    let same = written::held(
+        answer,
+        form,
+        states,
+        edges,
+        ranges,
+        sets,
+        rules,
+        modes,
+        decisions,
+        actions,
+    );
+    Held {
+        at: stored::behind(list, stored::behind(list, sofar.at, 1), form.len()),
+        written: form.len(),
+        same: sofar.same & same,
+    }
 }
 
 // A line about a case that differs.
@@ -169,14 +200,17 @@ fn report(tally: &[usize], same: bool) {
     }
 }
 
-// What a case adds to the tally.
-fn count_case(tally: &mut [usize], list: &[i32], at: usize, same: bool) {
+// What a case adds to the tally; so many words are stored as written of its tables.
+fn count_case(tally: &mut [usize], list: &[i32], at: usize, written: usize, same: bool) {
     let differs = if same { 0 } else { 1 };
+    let writes = if written > 0 { 1 } else { 0 };
     tally::add(tally, tally::DIFFER, differs);
     tally::add(tally, tally::LISTS, 1);
     tally::add(tally, stored::count(list, answer_at(list, at)), 1);
     tally::add(tally, tally::WORDS, length(list, at, 9));
     tally::add(tally, tally::COMPARED, lengths(list, at));
+    tally::add(tally, tally::WRITES, writes);
+    tally::add(tally, tally::WRITTEN, written);
 }
 
 // The case at a place; answers the place of the next.
@@ -224,7 +258,7 @@ fn replay_case(
         scratch,
     );
     report(tally, held.same);
-    count_case(tally, list, at, held.same);
+    count_case(tally, list, at, held.written, held.same);
     held.at
 }
 

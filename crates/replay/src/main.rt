@@ -1,12 +1,14 @@
 // Replays stored answers of the Rust: data/answers.words has word lists, the lengths of the slices to lend, and what the Rust made of
 // each list, put as document 01 puts it (oracle/replay.py wrote it, and says how). Each list is decoded by the library into tables
-// that held other words before; the answer and every word of all nine tables are held to the stored ones. A summary is printed.
+// that held other words before; the answer and every word of all nine tables are held to the stored ones. The decoded tables are
+// written (document 02, R-1), and these words held to stored ones (oracle/written.py). A summary is printed.
 
 mod cases;
 mod compare;
 mod lending;
 mod stored;
 mod tally;
+mod written;
 
 // The bytes of one block, as words.
 fn replay_bytes(tally: &mut [usize], bytes: &[u8]) {
@@ -43,7 +45,7 @@ fn main() {
         printing::text(b"answers.words is missing\n");
         return;
     }
-    let mut tally = [0usize; 17];
+    let mut tally = [0usize; 19];
     replay_file(&mut tally, fd);
     libc::close(fd);
     tally::print(&tally);

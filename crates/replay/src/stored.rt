@@ -43,3 +43,9 @@ pub fn part(list: &[i32], from: usize, to: usize) -> &[i32] {
     }
     &list[from..to]
 }
+
+// The words behind their number, which stands at a place.
+pub fn counted(list: &[i32], at: usize) -> &[i32] {
+    let from = behind(list, at, 1);
+    part(list, from, behind(list, from, count(list, at)))
+}

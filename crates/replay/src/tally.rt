@@ -1,5 +1,5 @@
 // Numbers that are counted: 0 to 12 the lists by their stored answer, 0 for an acceptance; then those that differ, the words decoded,
-// the table words compared and all lists.
+// the table words compared, all lists, those whose tables were written, and the words of these.
 
 pub const DIFFER: usize = 13;
 
@@ -8,6 +8,10 @@ pub const WORDS: usize = 14;
 pub const COMPARED: usize = 15;
 
 pub const LISTS: usize = 16;
+
+pub const WRITES: usize = 17;
+
+pub const WRITTEN: usize = 18;
 
 // So many more, as long as the numbers are small.
 pub fn add(tally: &mut [usize], which: usize, n: usize) {
@@ -53,6 +57,10 @@ pub fn print(tally: &[usize]) {
     printing::size(at(tally, WORDS));
     printing::text(b", table words compared ");
     printing::size(at(tally, COMPARED));
+    printing::text(b"\ntables written ");
+    printing::size(at(tally, WRITES));
+    printing::text(b", words ");
+    printing::size(at(tally, WRITTEN));
     printing::text(b"\nlists ");
     printing::size(at(tally, LISTS));
     printing::text(b", that differ ");

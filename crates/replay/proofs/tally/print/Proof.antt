@@ -5,10 +5,10 @@ use Rattle.replay.proofs.tally.print.Statement.{statement}
 use Rattle.replay.proofs.tally.print.Tie as tie
 
 abbrev Inv-loop : tie.InvT-loop
-Inv-loop tally number₀ t3 t4 t5 t6 t7 number = Unit {0}
+Inv-loop tally number₀ t3 t4 t5 t6 t7 t8 t9 number = Unit {0}
 
 abbrev μ-loop : tie.MeasureT-loop
-μ-loop tally number₀ t3 t4 t5 t6 t7 number = 13 - number
+μ-loop tally number₀ t3 t4 t5 t6 t7 t8 t9 number = 13 - number
 
 loop-holds : tie.Need-loop-holds Inv-loop μ-loop
 loop-holds c = search needs
@@ -79,6 +79,30 @@ slice-aggregate-text-5 c = search needs
 text-requires-5 : tie.Need-text-requires-5 Inv-loop μ-loop
 text-requires-5 c κs = search needs
 
+at-requires-5 : tie.Need-at-requires-5 Inv-loop μ-loop
+at-requires-5 c κs = search needs
+
+size-requires-5 : tie.Need-size-requires-5 Inv-loop μ-loop
+size-requires-5 c κs = search needs
+
+slice-aggregate-text-6 : tie.Need-slice-aggregate-text-6 Inv-loop μ-loop
+slice-aggregate-text-6 c = search needs
+
+text-requires-6 : tie.Need-text-requires-6 Inv-loop μ-loop
+text-requires-6 c κs = search needs
+
+at-requires-6 : tie.Need-at-requires-6 Inv-loop μ-loop
+at-requires-6 c κs = search needs
+
+size-requires-6 : tie.Need-size-requires-6 Inv-loop μ-loop
+size-requires-6 c κs = search needs
+
+slice-aggregate-text-7 : tie.Need-slice-aggregate-text-7 Inv-loop μ-loop
+slice-aggregate-text-7 c = search needs
+
+text-requires-7 : tie.Need-text-requires-7 Inv-loop μ-loop
+text-requires-7 c κs = search needs
+
 returns : tie.Need-returns Inv-loop μ-loop
 returns c = search needs
 
@@ -111,4 +135,12 @@ print-spec =
     size-requires-4
     slice-aggregate-text-5
     text-requires-5
+    at-requires-5
+    size-requires-5
+    slice-aggregate-text-6
+    text-requires-6
+    at-requires-6
+    size-requires-6
+    slice-aggregate-text-7
+    text-requires-7
     returns)
