@@ -4,7 +4,7 @@ use crate::lists::{Net, call, edge, eps, full, whole};
 
 const MAX: i32 = i32::MAX;
 
-/// P11: the follow state is the stop, or one with an epsilon edge to itself.
+/// Document 01's P11: the follow state is the stop, or one with an epsilon edge to itself.
 fn tail_call(follow: i32) -> Vec<i32> {
     Net::of(&[(2, 0), (7, 0), (1, 0)]).rules(&[[0, 1]]).edges(&[call(0, 0, follow), eps(2, follow)]).words()
 }

@@ -34,14 +34,17 @@ pub enum Damage {
     Sets { one: usize, other: usize },
     /// A rule edge has another follow state, and its return edge leads there.
     Follow { edge: usize, state: i32 },
+    /// Two records exchange one word.
+    Exchange { table: usize, word: usize, one: usize, other: usize },
 }
 
 /// The kinds of damages, for counting; and whether there are tables of each that no list decodes to, and tables that some list decodes to: a
 /// chain always goes up, and sets may have any numbers.
-pub const KINDS: [(&str, [bool; 2]); 10] = [
+pub const KINDS: [(&str, [bool; 2]); 11] = [
     ("a word", [true, true]), ("a count", [true, true]), ("records swapped", [true, true]), ("zeros counted", [true, true]),
     ("a record doubled", [true, true]), ("a record dropped", [true, true]), ("edges renumbered", [true, true]),
     ("edges chained otherwise", [true, false]), ("sets renumbered", [false, true]), ("another follow state", [true, true]),
+    ("a word exchanged", [true, true]),
 ];
 
 /// A table's place of a word.
@@ -62,8 +65,11 @@ impl Lent {
     /// The records that the Rust has of an accepted list.
     pub fn of(told: &Told) -> Option<Lent> {
         let counts = told.answer.ok()?;
-        let given = Records::of(&told.records, &counts);
-        Some(Lent { tables: given.tables.map(<[i32]>::to_vec), counts: given.counts, token: given.token })
+        Some(Lent::copy(Records::of(&told.records, &counts)))
+    }
+
+    pub fn copy(given: Records) -> Lent {
+        Lent { tables: given.tables.map(<[i32]>::to_vec), counts: given.counts, token: given.token }
     }
 
     pub fn records(&self) -> Records<'_> {
@@ -191,6 +197,7 @@ impl Damage {
             Damage::Rechain { .. } => 7,
             Damage::Sets { .. } => 8,
             Damage::Follow { .. } => 9,
+            Damage::Exchange { .. } => 10,
         }
     }
 
@@ -208,6 +215,9 @@ impl Damage {
             Damage::Rechain { state, nth } => there(STATES, state).and_then(|()| lent.rechain(state, nth))?,
             Damage::Sets { one, other } => there(SETS, one.max(other)).and_then(|()| lent.renumber_sets(one, other))?,
             Damage::Follow { edge, state } => there(EDGES, edge).and_then(|()| lent.follow(edge, state))?,
+            Damage::Exchange { table, word, one, other } => {
+                there(table, one.max(other)).map(|()| lent.tables[table].swap(place(table, one, word), place(table, other, word)))?;
+            }
         }
         Some(())
     }
@@ -226,6 +236,9 @@ impl Damage {
             Damage::Rechain { state, nth } => lower(state, nth).map(|(state, nth)| Damage::Rechain { state, nth }).into(),
             Damage::Sets { one, other } => lower(one, other).map(|(one, other)| Damage::Sets { one, other }).into(),
             Damage::Follow { edge, state } => (0..edge).map(|edge| Damage::Follow { edge, state }).collect(),
+            Damage::Exchange { table, word, one, other } => {
+                lower(one, other).map(|(one, other)| Damage::Exchange { table, word, one, other }).into()
+            }
             Damage::Count { .. } | Damage::Zeros { .. } => Vec::new(),
         }
     }
@@ -244,14 +257,15 @@ impl Damage {
             Damage::Rechain { state, nth } => format!("edges {nth} and {} of state {state} chained the other way round", nth + 1),
             Damage::Sets { one, other } => format!("sets {one} and {other} renumbered"),
             Damage::Follow { edge, state } => format!("edge {edge} has the follow state {state}"),
+            Damage::Exchange { table, word, one, other } => format!("records {one} and {other} of {} exchange word {word}", name(table)),
         }
     }
 }
 
 /// One of two numbers made smaller, or both.
 fn lower(one: usize, other: usize) -> [(usize, usize); 3] {
-    let (less, least) = (one.saturating_sub(1), other.saturating_sub(1));
-    [(one, least), (less, other), (less, least)]
+    let (before_one, before_other) = (one.saturating_sub(1), other.saturating_sub(1));
+    [(one, before_other), (before_one, other), (before_one, before_other)]
 }
 
 /// Every damage of these tables by itself.
@@ -264,6 +278,8 @@ pub fn every(lent: &Lent) -> Vec<Damage> {
         all.push(Damage::Zeros { table });
         all.extend((0..count).flat_map(|record| [Damage::Double { table, record }, Damage::Drop { table, record }]));
         all.extend(twos(count).map(|(one, other)| Damage::Swap { table, one, other }));
+        let of_words = |(one, other)| (0..TABLES[table].1).map(move |word| Damage::Exchange { table, word, one, other });
+        all.extend(twos(count).flat_map(of_words));
     }
     let [states, edges] = [STATES, EDGES].map(|table| lent.counts[table]);
     all.extend(twos(edges).map(|(one, other)| Damage::Renumber { one, other }));
@@ -274,7 +290,7 @@ pub fn every(lent: &Lent) -> Vec<Damage> {
 }
 
 /// Every two numbers below n.
-fn twos(n: usize) -> impl Iterator<Item = (usize, usize)> {
+pub fn twos(n: usize) -> impl Iterator<Item = (usize, usize)> {
     (0..n).flat_map(move |one| (one + 1..n).map(move |other| (one, other)))
 }
 
@@ -283,12 +299,12 @@ pub fn every_two_words(lent: &Lent) -> impl Iterator<Item = [Damage; 2]> {
     let mut single = Vec::new();
     for (table, words) in lent.tables.iter().enumerate() {
         for (at, &word) in words.iter().enumerate() {
-            single.extend((-1..4).filter(|&value| value != word).map(|value| Damage::Word { table, at, value }));
+            let others = (-1..4).filter(|&value| value != word);
+            single.extend(others.map(|value| ((table, at), Damage::Word { table, at, value })));
         }
     }
-    let place = |damage| if let Damage::Word { table, at, .. } = damage { (table, at) } else { (0, 0) };
     let all = twos(single.len()).map(move |(one, other)| [single[one], single[other]]);
-    all.filter(move |&[one, other]| place(one) != place(other))
+    all.filter(|[one, other]| one.0 != other.0).map(|two| two.map(|(_, damage)| damage))
 }
 
 /// Every word of every record, set to values around it, around the counts, and at the ends.

@@ -3,6 +3,7 @@
 mod asked;
 mod bases;
 mod damages;
+mod exact;
 mod gatehazel;
 mod hold;
 mod judged;
@@ -211,6 +212,14 @@ fn questions_by_rule(run: &mut Run, count: u64) {
     }
 }
 
+/// Tables put together of the records that all lists of a small kind give.
+fn every_small_table(run: &mut Run) {
+    match exact::kinds().and_then(|kinds| exact::hold(&kinds, &gatehazel::write_into)) {
+        Ok(met) => run.summary.exact = met,
+        Err(what) => run.plain_mismatch(&what),
+    }
+}
+
 fn compare(run: &mut Run, options: &Options) {
     // the short ones first, so that a mismatch is first met in a small list
     run.begin("every short list");
@@ -224,14 +233,18 @@ fn compare(run: &mut Run, options: &Options) {
     run.begin("about 65,536 records");
     large::large(run, if options.bounded { 2 } else { Room::others().len() });
     run.begin("questions by rule");
-    questions_by_rule(run, options.count / 2);
+    questions_by_rule(run, options.count.div_ceil(2));
+    run.begin("every small table");
+    every_small_table(run);
     run.begin("tables damaged");
     judged::by_hand(run);
+    run.begin("tables damaged, of seeded networks");
     judged::seeded(run, options.count / 20);
     run.begin("seeded lists");
     all_seeded(run, options.count);
-    // a part that met nothing would pass by itself
-    let unmet = [run.summary.judged.missing(), run.summary.unwritten()].concat();
+    run.end();
+    // what was not met would pass by itself, as a part does that compared nothing
+    let unmet = [run.summary.judged.missing(), run.summary.missing()].concat();
     unmet.iter().for_each(|what| run.plain_mismatch(what));
 }
 

@@ -12,14 +12,14 @@ use crate::told::{SCRATCH, Told};
 use crate::writer::{fits, words_of};
 use crate::written::{Write, other_length, put};
 
-/// More room than the records take: a list that has more of them, or fewer, is another's.
-const MORE: usize = 40;
+/// Room beyond what the records take, so that words which give a few more of them are seen to do so, and not only refused with 12.
+const SPARE: usize = 40;
 
 /// The words of a list that decodes to these records, if there is one.
 fn judged(given: Records, rng: &mut Rng) -> Result<Option<Vec<i32>>, String> {
     let Some(words) = words_of(given) else { return Ok(None) };
     let count = |table: usize| given.counts[if table == SCRATCH { STATES } else { table }];
-    let lengths = std::array::from_fn(|table| (count(table) + MORE) * TABLES[table].1);
+    let lengths = std::array::from_fn(|table| (count(table) + SPARE) * TABLES[table].1);
     let mut tables = Tables::default();
     let Ok(counts) = hold(&Told::of_all(&words), &words, &lengths, &mut tables, rng)? else { return Ok(None) };
     let decoded = Records::of(&tables, &counts);
@@ -107,7 +107,8 @@ fn some_word(lent: &Lent, rng: &mut Rng) -> Option<Damage> {
 
 /// A change of records, or of several words that go together; it may not suit.
 fn some_change(lent: &Lent, rng: &mut Rng) -> Damage {
-    let (kind, table) = (rng.below(8), rng.below(lent.counts.len()));
+    let (kind, table) = (rng.below(9), rng.below(lent.counts.len()));
+    let word = rng.below(TABLES[table].1);
     let mut of = |table: usize| rng.below(lent.counts[table].max(1));
     match kind {
         0 => Damage::Swap { table, one: of(table), other: of(table) },
@@ -116,6 +117,7 @@ fn some_change(lent: &Lent, rng: &mut Rng) -> Damage {
         3 | 4 => Damage::Renumber { one: of(EDGES), other: of(EDGES) },
         5 => Damage::Rechain { state: of(STATES), nth: of(EDGES) % 3 },
         6 => Damage::Sets { one: of(SETS), other: of(SETS) },
+        7 => Damage::Exchange { table, word, one: of(table), other: of(table) },
         _ => Damage::Follow { edge: of(EDGES), state: of(STATES) as i32 },
     }
 }
@@ -130,9 +132,9 @@ fn some_damages(lent: &Lent, rng: &mut Rng) -> Vec<Damage> {
 /// How often each seeded network is damaged.
 const OFTEN: u64 = 8;
 
-/// Seeded networks of each shape, damaged so often in all.
+/// Seeded networks of each shape, damaged so often in all, but at least one network of each.
 pub fn seeded(run: &mut Run, count: u64) {
-    for turn in 0..(count / OFTEN) as usize {
+    for turn in 0..SHAPES.len().max((count / OFTEN) as usize) {
         let told = Told::of(&network(&mut run.rng, SHAPES[turn % SHAPES.len()].0).words());
         let Some(lent) = Lent::of(&told) else { continue };
         for _ in 0..OFTEN {

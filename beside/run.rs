@@ -73,6 +73,8 @@ pub struct Run {
     /// The writes' numbers: so the other checks have the same numbers with writes and without.
     writes: Rng,
     pairs: Pairs,
+    /// The part that goes on, and how much was compared before it.
+    part: Option<(&'static str, u64)>,
 }
 
 impl Check {
@@ -156,18 +158,27 @@ impl Run {
     pub fn new(seed: u64) -> Run {
         Run {
             rng: Rng::new(seed), summary: Summary::default(), seed, tables: Tables::default(), others: Room::others(), turn: 0,
-            writes: Rng::new(seed), pairs: Pairs::default(),
+            writes: Rng::new(seed), pairs: Pairs::default(), part: None,
         }
     }
 
     /// Begins a part of the run. Each has its own numbers from the seed, so that lists added to one part leave the others as they are.
-    pub fn begin(&mut self, part: &str) {
+    pub fn begin(&mut self, part: &'static str) {
+        self.end();
         eprintln!("{part}");
+        self.part = Some((part, self.summary.compared()));
         let spelled = part.bytes().fold(self.seed, |sum, byte| sum.wrapping_mul(31).wrapping_add(u64::from(byte)));
         self.rng = Rng::new(spelled);
         self.turn = 0;
         self.writes = Rng::new(!spelled);
         self.pairs.clear();
+    }
+
+    /// Ends a part. One that compared nothing would pass by itself, and is a mismatch.
+    pub fn end(&mut self) {
+        if let Some((part, before)) = self.part.take() && self.summary.compared() == before {
+            self.plain_mismatch(&format!("a part compared nothing: {part}"));
+        }
     }
 
     /// Everything that the care asks for.

@@ -33,11 +33,15 @@ impl Met {
     }
 }
 
+/// The kinds of damages, then several together, and none.
+const SEVERAL: usize = damages::KINDS.len();
+const NONE: usize = SEVERAL + 1;
+
 /// What became of tables that were damaged and judged.
 #[derive(Default)]
 pub struct Judged {
-    /// By kind of damage, then of several together and of none: how many are 15, and how many writable.
-    kinds: [[u64; 2]; damages::KINDS.len() + 2],
+    /// By kind: how many are 15, and how many writable.
+    kinds: [[u64; 2]; NONE + 1],
     /// Table and word of a record where one changed word is 15.
     refused: BTreeSet<(usize, usize)>,
 }
@@ -45,9 +49,9 @@ pub struct Judged {
 impl Judged {
     pub fn add(&mut self, damages: &[Damage], writable: bool) {
         let kind = match damages {
-            [] => damages::KINDS.len() + 1,
+            [] => NONE,
             [one] => one.kind(),
-            _ => damages::KINDS.len(),
+            _ => SEVERAL,
         };
         self.kinds[kind][usize::from(writable)] += 1;
         if let ([Damage::Word { table, at, .. }], false) = (damages, writable) {
@@ -67,8 +71,8 @@ impl Judged {
         let kinds = (0..damages::KINDS.len()).filter(other);
         let words = (0..8).flat_map(|table| (0..TABLES[table].1).map(move |word| (table, word)));
         let free = words.filter(|word| self.refused.contains(word) == (*word == (RULES, 2)));
-        let several = self.kinds[damages::KINDS.len()].contains(&0).then(|| "tables with several damages are not of both kinds".to_string());
-        let above = (self.kinds[damages::KINDS.len() + 1][0] == 0).then(|| "no table above 65,536 records was judged".to_string());
+        let several = self.kinds[SEVERAL].contains(&0).then(|| "tables with several damages are not of both kinds".to_string());
+        let above = (self.kinds[NONE][0] == 0).then(|| "no table above 65,536 records was judged".to_string());
         kinds.map(|kind| format!("damaged tables are not of the kinds that there are: {}", damages::KINDS[kind].0))
             .chain(several)
             .chain(above)
@@ -113,6 +117,8 @@ pub struct Summary {
     /// Lists compared with earlier ones: those that gave the records of another, and those that gave new ones.
     same: [u64; 2],
     pub judged: Judged,
+    /// Tables held to every list of a kind: how many are 15, and how many writable.
+    pub exact: [u64; 2],
     pub damages: u64,
     short_of_room: Met,
     above_most: Met,
@@ -166,6 +172,11 @@ impl Summary {
                 }
             }
         }
+    }
+
+    /// How much was compared so far, in the numbers of which each part of a run raises one.
+    pub fn compared(&self) -> u64 {
+        self.decodes + self.ruled + self.judged.both().iter().chain(&self.exact).sum::<u64>()
     }
 
     /// A decode that was compared.
@@ -247,15 +258,26 @@ impl Summary {
         println!("questions on tables that no decode left, expected by document 01's rule: {}", self.ruled);
         self.print_written();
         self.judged.print();
+        let [refused, writable] = self.exact;
+        println!("tables held to every list of a small kind: {}, of them 15: {refused}, writable: {writable}", refused + writable);
         self.print_intended();
         println!("self-test: {} damages, all caught", self.damages);
         println!("mismatches: {}", self.mismatches);
     }
 
-    /// What has to be met of writing, and was not: each of the numbers that are printed.
-    pub fn unwritten(&self) -> Vec<String> {
-        let counts = self.writes.iter().chain(&self.same);
-        counts.filter(|&&count| count == 0).map(|_| "one of the numbers of lists that were written is 0".to_string()).collect()
+    /// What has to be met, and was not: numbers that the lists which come from no seed make more than 0 in any run.
+    pub fn missing(&self) -> Vec<String> {
+        let [lists, words, otherwise, other, short] = self.writes;
+        let [same, new] = self.same;
+        let asked = &self.asked;
+        let counts = [
+            ("lists whose tables were written", lists), ("words written", words), ("lists written otherwise than they were read", otherwise),
+            ("outputs of another length", other), ("outputs too short", short), ("lists of the same records", same),
+            ("lists of new records", new), ("slices of one block", self.apart), ("accepted lists with words behind", self.behind[0]),
+            ("refused lists with words behind", self.behind[1]), ("lists cut short", self.cut), ("matches", asked.matches),
+            ("n-th edges", asked.edges), ("set's parts", asked.parts), ("lookups", asked.lookups), ("questions by rule", self.ruled),
+        ];
+        counts.into_iter().filter(|(_, count)| *count == 0).map(|(name, _)| format!("none were compared: {name}")).collect()
     }
 
     fn print_written(&self) {

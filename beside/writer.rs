@@ -6,7 +6,7 @@ use crate::lists::{Net, Set};
 use crate::told::{ACTIONS, DECISIONS, MODES, RULES};
 
 /// The records of a table, which has all that count.
-fn rows<'a>(given: Records<'a>, table: usize) -> impl Iterator<Item = &'a [i32]> {
+pub fn rows<'a>(given: Records<'a>, table: usize) -> impl Iterator<Item = &'a [i32]> {
     let width = TABLES[table].1;
     given.tables[table][..given.counts[table] * width].chunks(width)
 }

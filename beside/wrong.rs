@@ -1,16 +1,17 @@
 //! Wrong versions of a write, each made of what Gatehazel answers: that every one of them is noticed is part of the self-test.
 
 use crate::bases::bases;
-use crate::damages::{Damage, Lent, every};
-use crate::gatehazel::{self, EDGES, Records, TABLES, Tables, write_into};
+use crate::damages::{Damage, Lent, every, twos};
+use crate::exact;
+use crate::gatehazel::{self, EDGES, RANGES, Records, SETS, STATES, TABLES, Tables, write_into};
 use crate::hold::{GAP, STAYS};
 use crate::judged::damaged;
-use crate::lists::Net;
+use crate::lists::{Net, eps};
 use crate::rooms::{Room, USUAL};
 use crate::seeded::Rng;
 use crate::summary::spelled;
-use crate::told::{RULES, Told};
-use crate::writer::{network_of, words_of};
+use crate::told::{MODES, RULES, Told};
+use crate::writer::{fits, network_of, rows, words_of};
 use crate::written::{Pairs, Wanted, Write, difference, expected, written};
 
 type Version = fn(Records, &mut [i32], &mut [i64]) -> u32;
@@ -178,8 +179,7 @@ const FORMS: [(&str, Form); 16] = [
     ("data of a skip", |net, _| net.actions.iter_mut().filter(|action| action[0] == 6).for_each(|action| action[1] = 1)),
     ("another max token type", |net, _| net.token ^= 1),
     ("derived edges", |net, given| {
-        let derived = given.tables[EDGES].chunks_exact(8).take(given.counts[EDGES]).filter(|edge| edge[6] == 1);
-        net.edges.extend(derived.map(|edge| [edge[1], edge[2], 1, 0, 0, 0]));
+        net.edges.extend(rows(given, EDGES).filter(|edge| edge[6] == 1).map(|edge| eps(edge[1], edge[2])));
     }),
     ("no decisions", |net, _| net.decisions.clear()),
 ];
@@ -195,20 +195,97 @@ fn other_form(form: Form, given: Records, out: &mut [i32], answer: &mut [i64]) -
     }
 }
 
+/// Of the tables that lists give, those that a version refuses with 15.
+type Narrow = fn(Records) -> bool;
+
+fn no_state(given: Records, number: i32) -> bool {
+    usize::try_from(number).map_or(true, |number| number >= given.counts[STATES])
+}
+
+/// Whether two of these are the same.
+fn alike(all: &[&[i32]]) -> bool {
+    twos(all.len()).any(|(one, other)| all[one] == all[other])
+}
+
+const NARROW: [(&str, Narrow); 10] = [
+    ("-1 in a range", |given| rows(given, RANGES).any(|range| range[0] == -1)),
+    ("a range up to the last number", |given| rows(given, RANGES).any(|range| range[1] == i32::MAX)),
+    ("an empty set", |given| rows(given, SETS).any(|set| set[1] == 0)),
+    ("more sets than edges over them", |given| given.counts[SETS] > rows(given, EDGES).filter(|edge| [7, 8].contains(&edge[0])).count()),
+    ("a rule without a stop", |given| rows(given, RULES).any(|rule| rule[1] == -1)),
+    ("two modes alike", |given| alike(&rows(given, MODES).collect::<Vec<_>>())),
+    ("a target that is not listed", |given| rows(given, EDGES).any(|edge| no_state(given, edge[2]))),
+    ("a follow state that is not listed", |given| rows(given, EDGES).any(|edge| edge[0] == 3 && no_state(given, edge[4]))),
+    ("two return edges alike", |given| {
+        alike(&rows(given, EDGES).filter(|edge| edge[6] == 1).map(|edge| &edge[..6]).collect::<Vec<_>>())
+    }),
+    ("a max token type below 0", |given| given.token < 0),
+];
+
+fn refuses_more(narrow: Narrow, given: Records, out: &mut [i32], answer: &mut [i64]) -> u32 {
+    match ours(given, out, answer).0 {
+        0 if narrow(given) => refuse(15, out, answer),
+        number => number,
+    }
+}
+
+/// Tables that no list decodes to are written as well as they can be, if tables that they are taken for are writable.
+fn takes_for(others: &[Lent], given: Records, out: &mut [i32], answer: &mut [i64]) -> u32 {
+    let writable = |other: &Lent| gatehazel::write(other.records(), &mut [0; 400]).is_ok();
+    match ours(given, out, answer).0 {
+        15 if others.iter().any(writable) => give(&words_of(given).unwrap_or_default(), out, answer),
+        number => number,
+    }
+}
+
+/// Ranges that touch are as good as others, and those that overlap are not: each end becomes twice its rank, so that ends which were
+/// next to each other no longer are, and all keep their order.
+fn touching(given: Records, out: &mut [i32], answer: &mut [i64]) -> u32 {
+    let mut apart = Lent::copy(given);
+    let mut ends = apart.tables[RANGES].clone();
+    ends.sort_unstable();
+    ends.dedup();
+    apart.tables[RANGES].iter_mut().for_each(|end| *end = 2 * ends.partition_point(|other| other < end) as i32);
+    takes_for(&[apart], given, out, answer)
+}
+
+/// Return edges are good in another order: two of them are changed back so.
+fn other_order(back: fn(usize, usize) -> Damage, given: Records, out: &mut [i32], answer: &mut [i64]) -> u32 {
+    if !fits(given) {
+        return ours(given, out, answer).0;
+    }
+    let derived: Vec<usize> = rows(given, EDGES).enumerate().filter(|(_, edge)| edge[6] == 1).map(|(number, _)| number).collect();
+    let ordered = twos(derived.len()).filter_map(|(one, other)| {
+        let mut lent = Lent::copy(given);
+        back(derived[one], derived[other]).apply(&mut lent).map(|()| lent)
+    });
+    takes_for(&ordered.collect::<Vec<_>>(), given, out, answer)
+}
+
+/// Versions with one test that lets too much through, and the damages that show it.
+const WIDE: [(&str, Version, fn(&Damage) -> bool); 3] = [
+    ("touching ranges", touching, |damage| matches!(damage, Damage::Word { table: RANGES, .. })),
+    (
+        "return edges numbered in another order",
+        |given, out, answer| other_order(|one, other| Damage::Renumber { one, other }, given, out, answer),
+        |damage| matches!(damage, Damage::Renumber { .. }),
+    ),
+    (
+        "the targets of return edges in another order",
+        |given, out, answer| other_order(|one, other| Damage::Exchange { table: EDGES, word: 2, one, other }, given, out, answer),
+        |damage| matches!(damage, Damage::Exchange { table: EDGES, word: 2, .. }),
+    ),
+];
+
 /// A word of a table's records.
 type Word = (usize, usize);
 
 /// A word of a table's records is not looked at: what it was in the sound tables is as good.
 fn leaves_out((table, word): Word, sound: &Lent, given: Records, out: &mut [i32], answer: &mut [i64]) -> u32 {
-    let mut healed = given.tables[table].to_vec();
-    let width = TABLES[table].1;
-    healed.iter_mut().zip(&sound.tables[table]).skip(word).step_by(width).for_each(|(word, &was)| *word = was);
-    let mut tables = given.tables;
-    tables[table] = &healed;
-    match (ours(given, out, answer).0, ours(Records { tables, ..given }, &mut [0; 400], &mut [])) {
-        (15, (0, _)) => give(&words_of(given).unwrap_or_default(), out, answer),
-        (number, _) => number,
-    }
+    let mut healed = Lent::copy(given);
+    let words = healed.tables[table].iter_mut().zip(&sound.tables[table]);
+    words.skip(word).step_by(TABLES[table].1).for_each(|(word, &was)| *word = was);
+    takes_for(&[healed], given, out, answer)
 }
 
 /// A network, and damages of its tables.
@@ -238,14 +315,17 @@ impl Base {
     }
 }
 
-/// Of a base's damages these are tried with a version.
+/// Of a base's damages these are tried with a version that more than a few of them show.
 fn every_so_many(number: usize, _: &Damage) -> bool {
     number % 5 == 0
 }
 
-fn must_notice(bases: &[Base], what: &str, write: Write, rng: &mut Rng) -> Result<u64, String> {
-    let noticed = bases.iter().any(|base| base.notices(write, rng, every_so_many).is_some());
+fn noticed_or(what: &str, noticed: bool) -> Result<u64, String> {
     if noticed { Ok(1) } else { Err(format!("a wrong version of write was not noticed: {what}")) }
+}
+
+fn must_notice(bases: &[Base], what: &str, write: Write, rng: &mut Rng) -> Result<u64, String> {
+    noticed_or(what, bases.iter().any(|base| base.notices(write, rng, every_so_many).is_some()))
 }
 
 /// A version that does not look at a word of a table's records.
@@ -257,7 +337,7 @@ fn must_notice_word(bases: &[Base], (table, word): Word, rng: &mut Rng) -> Resul
         let version = |given: Records, out: &mut [i32], answer: &mut [i64]| leaves_out((table, word), &sound, given, out, answer);
         base.notices(&version, rng, this).is_some()
     });
-    if noticed { Ok(1) } else { Err(format!("a write that leaves out word {word} of {} was not noticed", TABLES[table].0)) }
+    noticed_or(&format!("word {word} of {} left out", TABLES[table].0), noticed)
 }
 
 /// A write that agrees, of which the number, each element of the answer, and each word of the output and beside it is changed.
@@ -315,6 +395,16 @@ pub fn noticed(rng: &mut Rng) -> Result<u64, String> {
         let version = move |given: Records, out: &mut [i32], answer: &mut [i64]| other_form(form, given, out, answer);
         count += must_notice(&bases, name, &version, rng)?;
     }
+    for (name, narrow) in NARROW {
+        let version = move |given: Records, out: &mut [i32], answer: &mut [i64]| refuses_more(narrow, given, out, answer);
+        count += must_notice(&bases, name, &version, rng)?;
+    }
+    let kinds = exact::kinds()?;
+    for (name, version, shows) in WIDE {
+        count += noticed_or(name, bases.iter().any(|base| base.notices(&version, rng, |_, damage| shows(damage)).is_some()))?;
+        count += noticed_or(&format!("{name}, by every list of a small kind"), exact::hold(&kinds, &version).is_err())?;
+    }
+    // a rule's token type may be any, so that nothing is tested of it
     let words = (0..8).flat_map(|table| (0..TABLES[table].1).map(move |word| (table, word)));
     for word in words.filter(|&word| word != (RULES, 2)) {
         count += must_notice_word(&bases, word, rng)?;

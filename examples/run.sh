@@ -9,9 +9,14 @@ mkdir -p "$out"
 cc -std=c99 -Wall -Wextra -Iinclude -o "$out/walk" examples/c/walk.c target/staticlib/libcapi.a
 cc -std=c99 -Wall -Wextra -Iinclude -o "$out/patch" examples/c/patch.c target/staticlib/libcapi.a
 rustc --edition 2024 -O -L target/staticlib -o "$out/matching" examples/rust/matching.rs
+head -c 1927 samples/xpathlexer.atn > "$out/ragged" # a byte short
 {
     "$out/walk" samples/xpathlexer.atn 42
     "$out/patch" samples/xpathlexer.atn 2 7
+    "$out/patch" samples/xpathlexer.atn 2 7x || echo "status $?"
+    "$out/patch" samples/xpathlexer.atn 2 3000000000 || echo "status $?"
+    "$out/patch" /dev/zero 2 7 || echo "status $?"
+    "$out/patch" "$out/ragged" 2 7 || echo "status $?"
     "$out/matching"
 } > "$out/printed"
 diff examples/expected "$out/printed"

@@ -1,5 +1,7 @@
 /* Patches a token type by hand: decodes a dialect file, sets the token type of one rule, and writes the words again.
- * Usage: patch FILE RULE TYPE, with a file of little-endian 32-bit words (samples/). run.sh beside examples/ builds it. */
+ * Usage: patch FILE RULE TYPE, with a file of little-endian 32-bit words (samples/). examples/run.sh builds it.
+ * Ends with status 2 where an argument is at fault, and with 1 where the file is. */
+#include <errno.h>
 #include <stdio.h>
 #include <stdlib.h>
 #include "gatehazel.h"
@@ -11,6 +13,38 @@ static int64_t counts[16], answer[16];
 
 #define LEN(a) (sizeof (a) / sizeof *(a))
 
+static void leave(int status, const char *of, const char *what) {
+    printf("%s: %s\n", of, what);
+    exit(status);
+}
+
+/* Fills `words`. A file that does not fit, or ends inside a word, is not cut: what is left of a dialect may be accepted. */
+static size_t read_words(const char *name) {
+    FILE *file = fopen(name, "rb");
+    size_t bytes = file == NULL ? 0 : fread(words, 1, sizeof words, file);
+    if (file == NULL || ferror(file)) {
+        leave(1, name, "cannot be read");
+    }
+    if (bytes == sizeof words && fgetc(file) != EOF) {
+        leave(1, name, "too long");
+    }
+    if (bytes % sizeof *words != 0) {
+        leave(1, name, "not whole words");
+    }
+    fclose(file);
+    return bytes / sizeof *words;
+}
+
+static int32_t read_number(const char *text) {
+    char *end;
+    errno = 0;
+    long number = strtol(text, &end, 10);
+    if (end == text || *end != '\0' || errno != 0 || number < INT32_MIN || number > INT32_MAX) {
+        leave(2, text, "not a 32-bit number");
+    }
+    return (int32_t)number;
+}
+
 /* The words of the tables as they are now, in the one fixed form; counts are a decode's answer. */
 static uint32_t words_again(int32_t *out, size_t out_len) {
     return gatehazel_write(states, LEN(states), (size_t)counts[2], edges, LEN(edges), (size_t)counts[3],
@@ -20,25 +54,22 @@ static uint32_t words_again(int32_t *out, size_t out_len) {
 }
 
 int main(int argc, char **argv) {
-    FILE *file = argc == 4 ? fopen(argv[1], "rb") : NULL;
-    if (file == NULL) {
+    if (argc != 4) {
         printf("usage: patch FILE RULE TYPE\n");
         return 2;
     }
-    size_t count = fread(words, sizeof *words, LEN(words), file);
-    fclose(file);
+    size_t count = read_words(argv[1]);
+    int32_t rule = read_number(argv[2]), type = read_number(argv[3]);
     uint32_t refused = gatehazel_decode(words, count, states, LEN(states), edges, LEN(edges), ranges, LEN(ranges), sets, LEN(sets),
         rules, LEN(rules), modes, LEN(modes), decisions, LEN(decisions), actions, LEN(actions), scratch, LEN(scratch), counts, LEN(counts));
-    long rule = strtol(argv[2], NULL, 10);
     if (refused == 0 && (rule < 0 || rule >= counts[7])) {
-        printf("no rule %ld\n", rule);
-        return 1;
+        leave(2, argv[2], "no such rule");
     }
     if (refused == 0) {
         refused = words_again(before, LEN(before));
     }
     if (refused == 0) {
-        rules[3 * rule + 2] = (int32_t)strtol(argv[3], NULL, 10); /* any number will do; the max token type stays as it was */
+        rules[3 * rule + 2] = type; /* any number will do; the max token type stays as it was */
         refused = words_again(after, LEN(after));
     }
     if (refused != 0) {

@@ -12,12 +12,11 @@ use lib.ListN.{length, take, drop, length-drop}
 use lib.Seq.{drop-cons}
 use borrow.Author.Tests.{leb-true, le-leb, lt-leb}
 use Rattle.format.specs.Sets.{Range, range, key, rangesOf}
-use Rattle.format.specs.Sections.{same}
-use Rattle.format.specs.Places.{seFirst, seCount}
+use Rattle.format.specs.Places.{seCount}
 use Rattle.format.specs.Tables.{rowAt}
 use Rattle.format.specs.Writing.{cell, cellSize}
 use Rattle.rewriting.specs.Tests.{left, right}
-use Rattle.rewriting.specs.Formed.{natural, kept}
+use Rattle.rewriting.specs.Formed.{kept, setRow}
 use Rattle.rewriting.specs.Passes.{setsFrom, setsFine}
 use Rattle.checking.specs.Rows.{rowsFrom, rows-next}
 
@@ -86,19 +85,19 @@ rangesAt ra b x = rangesOf (take (2 * cellSize x seCount) (drop (2 * b) ra))
 
 -- m ranges in all
 abbrev pub setFine : ℕ → List ℤ → ℕ → List ℤ → Bool
-setFine m ra b x = same (cell x seFirst) (pos b) && natural (cell x seCount) && leb (b + cellSize x seCount) m && kept 0 (rangesAt ra b x)
+setFine m ra b x = setRow b x && leb (b + cellSize x seCount) m && kept 0 (rangesAt ra b x)
 
 module _ (m : ℕ) (ra : List ℤ) (b : ℕ) (x : List ℤ) where
   pub set-outside : m < b + cellSize x seCount → false ≡ setFine m ra b x
   set-outside h = rw (lt-leb (b + cellSize x seCount) m h, and-false) refl
 
   pub set-within : b + cellSize x seCount ≤ m
-      → (same (cell x seFirst) (pos b) && natural (cell x seCount) && kept 0 (rangesAt ra b x)) ≡ setFine m ra b x
+      → (setRow b x && kept 0 (rangesAt ra b x)) ≡ setFine m ra b x
   set-within h = rw (le-leb (b + cellSize x seCount) m h, and-true) refl
 
   set-inside : setFine m ra b x ≡ true → b + cellSize x seCount ≤ m
   set-inside e =
-      let first = same (cell x seFirst) (pos b) && natural (cell x seCount) in
+      let first = setRow b x in
       let fits = leb (b + cellSize x seCount) m in
       leb-true (b + cellSize x seCount) m (right first fits (left (first && fits) (kept 0 (rangesAt ra b x)) e))
 

@@ -1,4 +1,5 @@
-// One pass over a lent table: whether all of its records are fine. What follows a table's last record is not looked at.
+// Document 02, R-1, refusal 15: one pass over a lent table, whether all of its records are fine. What follows a table's last record is not
+// looked at.
 
 ghost use mathlib.Core.Path.{_≡_};
 ghost use Prim.Native.Nat.{_*_, _≤_};

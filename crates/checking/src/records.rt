@@ -1,5 +1,5 @@
-// Records by themselves. `&` makes every test, whatever the others say: each is one look at a word, and there is one way through them.
-// A `match` has an arm for each type, as the definition has a row (document 01, "Edge types").
+// Document 02, R-1, refusal 15: records by themselves. `&` makes every test, whatever the others say: each is one look at a word, and there
+// is one way through them. A `match` has an arm for each type, as the definition has a row (document 01, "Edge types").
 
 ghost use mathlib.Core.Path.{_≡_};
 ghost use mathlib.Core.Bool.{_&&_};
@@ -33,7 +33,7 @@ fn state_read(row: &[i32]) -> bool
     requires { ⌜ length (now row) ≡ 8 ⌝ }
     ensures { λ r. ⌜ r ≡ stateRead (stateBack (now (row .entry))) ⌝ }
 {
-    let kind = signs::size(row, state::KIND);
+    let kind = tables::size_at(row, state::KIND);
     let after = format::words_after(kind);
     if kind < 12 {
         return linked(row, after, state::END, state::BACK);
@@ -82,7 +82,7 @@ pub fn arguments_fine(row: &[i32], k: usize) -> bool
     requires { ⌜ length (now row) ≡ 8 ⌝ }
     ensures { λ r. ⌜ r ≡ argsRead k (edgeBack (now (row .entry))) ⌝ }
 {
-    let kind = signs::size(row, edge::KIND);
+    let kind = tables::size_at(row, edge::KIND);
     match kind {
         1 => alone(row, signs::nought(row, edge::P)),
         2 => signs::nought(row, edge::R),
@@ -115,7 +115,7 @@ fn action_read(row: &[i32]) -> bool
     requires { ⌜ length (now row) ≡ 3 ⌝ }
     ensures { λ r. ⌜ r ≡ actionRead (actionBack (now (row .entry))) ⌝ }
 {
-    let kind = signs::size(row, action::KIND);
+    let kind = tables::size_at(row, action::KIND);
     match kind {
         0 => signs::nought(row, action::D2),
         1 => true,

@@ -9,10 +9,9 @@ ghost use lib.ListN.{length};
 ghost use Rattle.format.specs.Sets.{key};
 ghost use Rattle.format.specs.Sections.{same};
 ghost use Rattle.format.specs.Links.{names};
-ghost use Rattle.format.specs.Writing.{cell, cellSize};
+ghost use Rattle.format.specs.Writing.{cell};
 ghost use Rattle.rewriting.specs.Formed as spec;
 use ordering::order;
-use words::Sign;
 
 // Whether the word is not negative.
 pub fn natural(row: &[i32], k: usize) -> bool
@@ -22,23 +21,12 @@ pub fn natural(row: &[i32], k: usize) -> bool
     0 <= row[k]
 }
 
-// 0 for a negative word.
-pub fn size(row: &[i32], k: usize) -> usize
-    requires { ⌜ k < length (now row) ⌝ }
-    ensures { λ r. ⌜ r ≡ cellSize (now (row .entry)) k ⌝ }
-{
-    match words::sign_of(row[k]) {
-        Sign::Natural(n) => n,
-        Sign::Negative => 0,
-    }
-}
-
 // Whether the word is the number of one of n records.
 pub fn named(row: &[i32], k: usize, n: usize) -> bool
     requires { ⌜ k < length (now row) ⌝ }
     ensures { λ r. ⌜ r ≡ names n (cell (now (row .entry)) k) ⌝ }
 {
-    natural(row, k) & (size(row, k) < n)
+    natural(row, k) & (tables::size_at(row, k) < n)
 }
 
 // Whether the word is the number n.
@@ -46,7 +34,7 @@ pub fn is_number(row: &[i32], k: usize, n: usize) -> bool
     requires { ⌜ k < length (now row) ⌝ }
     ensures { λ r. ⌜ r ≡ same (cell (now (row .entry)) k) (pos n) ⌝ }
 {
-    natural(row, k) & (size(row, k) == n)
+    natural(row, k) & (tables::size_at(row, k) == n)
 }
 
 // ""None" is -1."

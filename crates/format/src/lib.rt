@@ -1,8 +1,9 @@
 // The types of document 01's answers, its table of the thirteen state types, and the places of a record's words (state, edge, range, set,
-// rule, action). The definitions are in specs/.
+// rule, name for modes and decisions, action). The definitions are in specs/.
 
 pub mod action;
 pub mod edge;
+pub mod name;
 pub mod range;
 pub mod rule;
 pub mod set;

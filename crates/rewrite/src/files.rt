@@ -3,9 +3,9 @@
 use crate::dialect;
 use crate::dialect::Outcome;
 use crate::errors;
-use crate::names;
 use crate::output;
 use format::Refusal;
+use libc::STDERR_FILENO;
 
 // The most bytes of a file, and its words.
 const MOST: usize = 131072;
@@ -16,34 +16,13 @@ const WORDS: usize = 32768;
 // words at least, its interval count and the flag; nothing else grows.
 const WRITTEN: usize = 65536;
 
-// Number, meaning, field, place and value; where there is no room, also how much there was.
-fn undecoded(name: &[u8], r: Refusal) {
-    errors::text(name);
-    errors::text(b": refused ");
-    errors::size(r.number as usize);
-    errors::text(b": ");
-    names::refusal(r.number);
-    errors::text(b"; field ");
-    errors::size(r.field as usize);
-    errors::text(b" (");
-    names::field(r.field);
-    errors::text(b"), place ");
-    errors::size(r.place);
-    errors::text(b", value ");
-    errors::number(r.value);
-    if r.number == 12 {
-        errors::text(b"; here is room for 32768 records of each table");
-    }
-    errors::text(b"\n");
-}
-
 // The number and its meaning; a refusal to write has no more.
 fn unwritten(name: &[u8], r: Refusal) {
     errors::text(name);
     errors::text(b": not written, refused ");
     errors::size(r.number as usize);
     errors::text(b": ");
-    names::refusal(r.number);
+    printing::names::refusal(STDERR_FILENO, r.number);
     errors::text(b"\n");
 }
 
@@ -64,7 +43,7 @@ fn rewrite_words(name: &[u8], words: &[i32]) {
     let mut out = [0i32; WRITTEN];
     match dialect::rewrite(words, &mut out) {
         Outcome::Wrote(n) => put(&out, n),
-        Outcome::Undecoded(r) => undecoded(name, r),
+        Outcome::Undecoded(r) => printing::refusals::undecoded(STDERR_FILENO, name, r),
         Outcome::Unwritten(r) => unwritten(name, r),
         Outcome::Unlisted => {}
     }

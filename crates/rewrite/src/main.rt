@@ -6,7 +6,6 @@ mod arguments;
 mod dialect;
 mod errors;
 mod files;
-mod names;
 mod numbers;
 mod output;
 mod tokens;

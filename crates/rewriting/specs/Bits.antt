@@ -6,7 +6,7 @@ use Prim.Native.Nat.{ℕ, zero, suc, _+_, _≤_}
 use native.Mathlib.Omega.{arith}
 use lib.Dec.{eqb}
 use lib.IntN.{ℤ, pos, negsuc}
-use lib.ListN.{length, getD, take, drop, length-take, length-drop}
+use lib.ListN.{length, getD, take, drop, length-take, length-drop, length-map}
 use mir.Syntax.{w32}
 use mir.Val.{SFits}
 use Rattle.format.specs.Reading.{Table, States, Edges, Ranges, Sets, Rules, Modes, Decisions, Actions, Scratch, pick}
@@ -20,7 +20,6 @@ use Rattle.laws.specs.Rows.{Wide}
 use Rattle.laws.specs.Gives.{Every}
 use Rattle.laws.specs.Lists.{every-append}
 use Rattle.laws.specs.Fits.{Roomed}
-use Rattle.rewriting.specs.Fine.{map-long}
 use Rattle.rewriting.specs.Found.{most, found-exactly, written-comes}
 use Rattle.rewriting.specs.Checks.{checks-exactly}
 
@@ -144,7 +143,7 @@ words-fit T token h k few m =
         (join (part stateWord (numbers flag2 (T States)) (omega (arith, numbers-short flag2 0 (T States), few States)) (numbers-fit flag2 0 (T States) (omega (arith, few States))))
         (join (part ruleForm (map ruleBack (T Rules)) (m .rules) (map-fits ruleForm ruleBack (λ x w. (size-fits (cell x ruStart) (cell-fits x ruStart w), (cell-fits x ruToken w, tt))) (T Rules) (h Rules)))
         (join (part stateWord (map stateNamed (T Modes)) (m .modes) (map-fits stateWord stateNamed one (T Modes) (h Modes)))
-        (join (part setForm (cuts (map rangeBack (T Ranges)) (map (λ x. cellSize x seCount) (T Sets))) (m .sets) (sets-fit (map rangeBack (T Ranges)) (map (λ x. cellSize x seCount) (T Sets)) (omega (arith, map-long rangeBack (T Ranges), few Ranges)) (map-fits rangeWords rangeBack (λ x w. (cell-fits x raStart w, (cell-fits x raStop w, tt))) (T Ranges) (h Ranges))))
+        (join (part setForm (cuts (map rangeBack (T Ranges)) (map (λ x. cellSize x seCount) (T Sets))) (m .sets) (sets-fit (map rangeBack (T Ranges)) (map (λ x. cellSize x seCount) (T Sets)) (omega (arith, length-map (T Ranges) rangeBack, few Ranges)) (map-fits rangeWords rangeBack (λ x w. (cell-fits x raStart w, (cell-fits x raStop w, tt))) (T Ranges) (h Ranges))))
         (join (part edgeForm (map edgeBack (those own (T Edges))) (omega (arith, m .edges)) (map-fits edgeForm edgeBack edge-fits (those own (T Edges)) (those-fits (Every W) own (T Edges) (h Edges))))
         (join (part stateWord (map stateNamed (T Decisions)) (m .decisions) (map-fits stateWord stateNamed one (T Decisions) (h Decisions)))
         (part actionWords (map actionBack (T Actions)) (m .actions) (map-fits actionWords actionBack (λ x w. (size-fits (cell x acKind) (cell-fits x acKind w), (cell-fits x acD1 w, (cell-fits x acD2 w, tt)))) (T Actions) (h Actions))))))))))

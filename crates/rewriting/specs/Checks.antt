@@ -7,7 +7,7 @@ use Prim.Native.Nat.{ℕ, zero, suc, _+_, _-_, _*_, _≤_, _<_}
 use native.Mathlib.Omega.{arith}
 use lib.Dec.{ltb, eqb}
 use lib.IntN.{ℤ, pos, negsuc}
-use lib.ListN.{length, getD, take, drop, length-append, length-take, List·getD-map, take-append-drop}
+use lib.ListN.{length, getD, take, drop, length-append, length-take, List·getD-map, take-append-drop, length-map}
 use lib.Seq.{getD-take, getD-append-add, drop-append-seam}
 use borrow.Author.Tests.{lt-ltb, le-ltb, ltb-true}
 use Rattle.format.specs.Reading.{Table, States, Edges, Ranges, Sets, Rules, Modes, Decisions, Actions, Scratch, pick}
@@ -27,7 +27,7 @@ use Rattle.rewriting.specs.Formed.{natural, stateRead, kept, argsRead, e
 use Rattle.rewriting.specs.Passes.{stateFine, edgeFine, actionFine}
 use Rattle.rewriting.specs.Found.{most, Found}
 use Rattle.rewriting.specs.Tests.{lie, both, left, right}
-use Rattle.rewriting.specs.Fine.{statesIn, edgesIn, ownIn, rulesIn, rulesOf, at, Fine, inRow, counts, map-long, row-cuts, fine-exactly}
+use Rattle.rewriting.specs.Fine.{statesIn, edgesIn, ownIn, rulesIn, rulesOf, at, Fine, inRow, counts, row-cuts, fine-exactly}
 use Rattle.rewriting.specs.Climbs.{sum, edgeAt, sources, climb, Chained, climbs-exactly}
 
 abbrev pub flag4 : List ℤ → Bool
@@ -138,7 +138,7 @@ all-map p g [] h = refl
 all-map p g (x ∷ X) h = rw (h 0 (omega arith)) (all-map p g X (λ i k. h (suc i) (omega arith)))
 
 map-all : {A : Type 0} (p : A → Bool) (g : List ℤ → A) (X : List (List ℤ)) → every p (map g X) ≡ true → (i : ℕ) → i < length X → p (g (getD X i [])) ≡ true
-map-all {A} p g X h i k = ap p (sym (List·getD-map g X i [])) ∙ every-true p (g []) (map g X) h i (omega (arith, map-long g X))
+map-all {A} p g X h i k = ap p (sym (List·getD-map g X i [])) ∙ every-true p (g []) (map g X) h i (omega (arith, length-map X g))
 
 -- ---- flags
 
@@ -185,7 +185,7 @@ module _ (T : Table → List (List ℤ)) (token : ℤ) where
     own-is = ap (map edgeBack) (own-split (T Edges) o l a b) ∙ map-take edgeBack o (T Edges)
 
     own-long : length (ownIn T) ≡ o
-    own-long = ap length own-is ∙ length-take o (edgesIn T) ∙ omega (arith, map-long edgeBack (T Edges))
+    own-long = ap length own-is ∙ length-take o (edgesIn T) ∙ omega (arith, length-map (T Edges) edgeBack)
 
   -- ---- what both sides show
 
@@ -209,8 +209,8 @@ module _ (T : Table → List (List ℤ)) (token : ℤ) where
     pub chained : Chained (length (T States)) (edgesIn T) (λ s. at T States s stFirst) (λ s. at T States s stLast) (λ s. at T States s stCount) (λ i. at T Edges i edNext)
     chained =
         climbs-exactly (length (T States)) (edgesIn T) (λ s. at T States s stFirst) (λ s. at T States s stLast) (λ s. at T States s stCount) (λ i. at T Edges i edNext)
-        (λ i h. let x = edge-tests i (omega (arith, map-long edgeBack (T Edges))) in subst (λ (e : Edge). e .source < length (T States)) (sym (edge-at i)) (x .3))
-        .0 (w .climbs, w .counted ∙ sym (map-long edgeBack (T Edges)))
+        (λ i h. let x = edge-tests i (omega (arith, length-map (T Edges) edgeBack)) in subst (λ (e : Edge). e .source < length (T States)) (sym (edge-at i)) (x .3))
+        .0 (w .climbs, w .counted ∙ sym (length-map (T Edges) edgeBack))
 
     pub state-tests : (s : ℕ) → s < length (T States) → (natural (at T States s stKind) ≡ true) × (stateRead (stateBack (row T States s)) ≡ true) × (names 8 (at T States s stFlags) ≡ true)
     state-tests s h =
@@ -251,31 +251,31 @@ module _ (T : Table → List (List ℤ)) (token : ℤ) where
     is-read =
         record {
           states = all-map stateRead stateBack (T States) (λ s h. state-tests (c .wired .joined) s h .1);
-          ones = numbers-listed flag1 0 (length (statesIn T)) (T States) (omega (arith, map-long stateBack (T States)));
-          twos = numbers-listed flag2 0 (length (statesIn T)) (T States) (omega (arith, map-long stateBack (T States)));
+          ones = numbers-listed flag1 0 (length (statesIn T)) (T States) (omega (arith, length-map (T States) stateBack));
+          twos = numbers-listed flag2 0 (length (statesIn T)) (T States) (omega (arith, length-map (T States) stateBack));
           sets = c .kept;
           edges =
-              let n = sym (map-long stateBack (T States)) in
-              let m : length (T Sets) ≡ length (cuts (map rangeBack (T Ranges)) (counts (T Sets))) = sym (cuts-long (map rangeBack (T Ranges)) (counts (T Sets)) ∙ map-long (λ x. cellSize x seCount) (T Sets)) in
+              let n = sym (length-map (T States) stateBack) in
+              let m : length (T Sets) ≡ length (cuts (map rangeBack (T Ranges)) (counts (T Sets))) = sym (cuts-long (map rangeBack (T Ranges)) (counts (T Sets)) ∙ length-map (T Sets) (λ x. cellSize x seCount)) in
               subst (λ (j : ℕ). every (edgeRead j (length (cuts (map rangeBack (T Ranges)) (counts (T Sets))))) (ownIn T) ≡ true) n (subst (λ (j : ℕ). every (edgeRead (length (T States)) j) (ownIn T) ≡ true) m edges-read);
           actions = all-map actionRead actionBack (T Actions) (λ i h. right (natural (at T Actions i acKind)) (actionRead (actionBack (row T Actions i))) (c .actions i h));
         }
 
     set-cuts : flat (cuts (map rangeBack (T Ranges)) (counts (T Sets))) ≡ map rangeBack (T Ranges)
-    set-cuts = row-cuts (map rangeBack (T Ranges)) 0 (T Sets) (subst (λ (n : ℕ). inRow n 0 (T Sets) ≡ true) (sym (map-long rangeBack (T Ranges))) (c .sets)) .1
+    set-cuts = row-cuts (map rangeBack (T Ranges)) 0 (T Sets) (subst (λ (n : ℕ). inRow n 0 (T Sets) ≡ true) (sym (length-map (T Ranges) rangeBack)) (c .sets)) .1
 
     is-few : Roomed most (recovered T token)
     unfolding recovered
     is-few =
         record {
-          states = omega (arith, map-long stateBack (T States), c .wired .joined .few States);
-          edges = omega (arith, length-append (ownIn T) (derived (statesIn T) (rulesOf T) (ownIn T)), ap length in-order, map-long edgeBack (T Edges), c .wired .joined .few Edges);
-          ranges = omega (arith, ap length set-cuts, map-long rangeBack (T Ranges), c .wired .joined .few Ranges);
-          sets = omega (arith, cuts-long (map rangeBack (T Ranges)) (counts (T Sets)), map-long (λ x. cellSize x seCount) (T Sets), c .wired .joined .few Sets);
-          rules = omega (arith, map-long ruleBack (T Rules), c .wired .joined .few Rules);
-          modes = omega (arith, map-long stateNamed (T Modes), c .wired .joined .few Modes);
-          decisions = omega (arith, map-long stateNamed (T Decisions), c .wired .joined .few Decisions);
-          actions = omega (arith, map-long actionBack (T Actions), c .wired .joined .few Actions);
+          states = omega (arith, length-map (T States) stateBack, c .wired .joined .few States);
+          edges = omega (arith, length-append (ownIn T) (derived (statesIn T) (rulesOf T) (ownIn T)), ap length in-order, length-map (T Edges) edgeBack, c .wired .joined .few Edges);
+          ranges = omega (arith, ap length set-cuts, length-map (T Ranges) rangeBack, c .wired .joined .few Ranges);
+          sets = omega (arith, cuts-long (map rangeBack (T Ranges)) (counts (T Sets)), length-map (T Sets) (λ x. cellSize x seCount), c .wired .joined .few Sets);
+          rules = omega (arith, length-map (T Rules) ruleBack, c .wired .joined .few Rules);
+          modes = omega (arith, length-map (T Modes) stateNamed, c .wired .joined .few Modes);
+          decisions = omega (arith, length-map (T Decisions) stateNamed, c .wired .joined .few Decisions);
+          actions = omega (arith, length-map (T Actions) actionBack, c .wired .joined .few Actions);
         }
 
     mark-is : (i : ℕ) → i < length (T Edges) → at T Edges i edMark ≡ pos (pick (ltb i (length (ownIn T))) (2 * bit (tail (statesIn T) (rulesOf T) (edgesIn T) (edgeBack (row T Edges i)))) 1)
@@ -306,7 +306,7 @@ module _ (T : Table → List (List ℤ)) (token : ℤ) where
                 source = x .1;
                 target = x .2;
                 mark = mark-is i h;
-                onward = chained (c .wired .joined) .next-edge i (omega (arith, map-long edgeBack (T Edges))) ∙ ap (λ (e : Edge). next (edgesIn T) (e .source) i) (edge-at i);
+                onward = chained (c .wired .joined) .next-edge i (omega (arith, length-map (T Edges) edgeBack)) ∙ ap (λ (e : Edge). next (edgesIn T) (e .source) i) (edge-at i);
               };
           sets = c .sets;
           rules = λ R h. record { start = c .wired .joined .starts R h; stop = c .wired .joined .stops R h };
@@ -318,7 +318,7 @@ module _ (T : Table → List (List ℤ)) (token : ℤ) where
   -- and `Fine` gives them; there is no scratch
   module _ (f : Fine T token) (scratch : T Scratch ≡ []) where
     few-own : length (ownIn T) ≤ length (T Edges)
-    few-own = omega (arith, map-long edgeBack (those own (T Edges)), those-short own (T Edges))
+    few-own = omega (arith, length-map (those own (T Edges)) edgeBack, those-short own (T Edges))
 
     mark-own : (i : ℕ) → i < length (ownIn T) → at T Edges i edMark ≡ pos (2 * bit (tail (statesIn T) (rulesOf T) (edgesIn T) (edgeBack (row T Edges i))))
     mark-own i h = f .edges i (omega (arith, few-own)) .mark ∙ rw (lt-ltb i (length (ownIn T)) h) refl
@@ -343,23 +343,23 @@ module _ (T : Table → List (List ℤ)) (token : ℤ) where
 
     all-few : (t : Table) → length (T t) ≤ 65536
     unfolding recovered
-    all-few States = omega (arith, map-long stateBack (T States), f .roomed .states)
-    all-few Edges = omega (arith, length-append (ownIn T) (derived (statesIn T) (rulesOf T) (ownIn T)), ap length (f .order), map-long edgeBack (T Edges), f .roomed .edges)
+    all-few States = omega (arith, length-map (T States) stateBack, f .roomed .states)
+    all-few Edges = omega (arith, length-append (ownIn T) (derived (statesIn T) (rulesOf T) (ownIn T)), ap length (f .order), length-map (T Edges) edgeBack, f .roomed .edges)
     all-few Ranges =
-        let q = row-cuts (map rangeBack (T Ranges)) 0 (T Sets) (subst (λ (n : ℕ). inRow n 0 (T Sets) ≡ true) (sym (map-long rangeBack (T Ranges))) (f .sets)) .1 in
-        omega (arith, ap length q, map-long rangeBack (T Ranges), f .roomed .ranges)
-    all-few Sets = omega (arith, cuts-long (map rangeBack (T Ranges)) (counts (T Sets)), map-long (λ x. cellSize x seCount) (T Sets), f .roomed .sets)
-    all-few Rules = omega (arith, map-long ruleBack (T Rules), f .roomed .rules)
-    all-few Modes = omega (arith, map-long stateNamed (T Modes), f .roomed .modes)
-    all-few Decisions = omega (arith, map-long stateNamed (T Decisions), f .roomed .decisions)
-    all-few Actions = omega (arith, map-long actionBack (T Actions), f .roomed .actions)
+        let q = row-cuts (map rangeBack (T Ranges)) 0 (T Sets) (subst (λ (n : ℕ). inRow n 0 (T Sets) ≡ true) (sym (length-map (T Ranges) rangeBack)) (f .sets)) .1 in
+        omega (arith, ap length q, length-map (T Ranges) rangeBack, f .roomed .ranges)
+    all-few Sets = omega (arith, cuts-long (map rangeBack (T Ranges)) (counts (T Sets)), length-map (T Sets) (λ x. cellSize x seCount), f .roomed .sets)
+    all-few Rules = omega (arith, length-map (T Rules) ruleBack, f .roomed .rules)
+    all-few Modes = omega (arith, length-map (T Modes) stateNamed, f .roomed .modes)
+    all-few Decisions = omega (arith, length-map (T Decisions) stateNamed, f .roomed .decisions)
+    all-few Actions = omega (arith, length-map (T Actions) actionBack, f .roomed .actions)
     all-few Scratch = omega (arith, ap length scratch)
 
     fine-read : (i : ℕ) → i < length (ownIn T) → edgeRead (length (T States)) (length (T Sets)) (edgeBack (row T Edges i)) ≡ true
     unfolding recovered
     fine-read i h =
-        let n = map-long stateBack (T States) in
-        let m = cuts-long (map rangeBack (T Ranges)) (counts (T Sets)) ∙ map-long (λ x. cellSize x seCount) (T Sets) in
+        let n = length-map (T States) stateBack in
+        let m = cuts-long (map rangeBack (T Ranges)) (counts (T Sets)) ∙ length-map (T Sets) (λ x. cellSize x seCount) in
         let a = subst (λ (j : ℕ). every (edgeRead (length (T States)) j) (ownIn T) ≡ true) m (subst (λ (j : ℕ). every (edgeRead j (length (cuts (map rangeBack (T Ranges)) (counts (T Sets))))) (ownIn T) ≡ true) n (f .formed .edges)) in
         let b = subst (λ (z : List (List ℤ)). every (edgeRead (length (T States)) (length (T Sets))) (map edgeBack z) ≡ true) split a in
         subst (λ (z : List ℤ). edgeRead (length (T States)) (length (T Sets)) (edgeBack z) ≡ true) (getD-take (length (ownIn T)) (T Edges) i [] h)
@@ -382,12 +382,12 @@ module _ (T : Table → List (List ℤ)) (token : ℤ) where
         ∙ edge-at i
 
     behind-few : (i : ℕ) → length (ownIn T) ≤ i → i < length (T Edges) → behind i < length (derived (statesIn T) (rulesOf T) (ownIn T))
-    behind-few i h k = omega (arith, length-append (ownIn T) (derived (statesIn T) (rulesOf T) (ownIn T)), ap length (f .order), map-long edgeBack (T Edges))
+    behind-few i h k = omega (arith, length-append (ownIn T) (derived (statesIn T) (rulesOf T) (ownIn T)), ap length (f .order), length-map (T Edges) edgeBack)
 
     from-derived : (i : ℕ) → length (ownIn T) ≤ i → i < length (T Edges) → cellSize (row T Edges i) edSource < length (T States)
     from-derived i h k =
         let r = every-at (Return (length (statesIn T))) (derived (statesIn T) (rulesOf T) (ownIn T)) (edgeBack []) (behind i) (derived-are (statesIn T) (rulesOf T) (ownIn T)) (behind-few i h k) in
-        omega (arith, r .listed, ap (λ (x : Edge). x .source) (derived-at i h), map-long stateBack (T States))
+        omega (arith, r .listed, ap (λ (x : Edge). x .source) (derived-at i h), length-map (T States) stateBack)
 
     all-read : (i : ℕ) → i < length (T Edges) → argsRead (length (T Sets)) (edgeBack (row T Edges i)) ≡ true
     all-read i k =
@@ -401,12 +401,12 @@ module _ (T : Table → List (List ℤ)) (token : ℤ) where
     as-chained : ((s : ℕ) → s < length (T States) → climb (length (edgesIn T)) (sources (edgesIn T)) (λ i. at T Edges i edNext) s (at T States s stFirst) (at T States s stLast) (at T States s stCount) ≡ true) × (sum (length (T States)) (λ s. size (at T States s stCount)) ≡ length (edgesIn T))
     as-chained =
         climbs-exactly (length (T States)) (edgesIn T) (λ s. at T States s stFirst) (λ s. at T States s stLast) (λ s. at T States s stCount) (λ i. at T Edges i edNext)
-        (λ i h. subst (λ (e : Edge). e .source < length (T States)) (sym (edge-at i)) (from-listed i (omega (arith, map-long edgeBack (T Edges)))))
+        (λ i h. subst (λ (e : Edge). e .source < length (T States)) (sym (edge-at i)) (from-listed i (omega (arith, length-map (T Edges) edgeBack))))
         .1 (record {
           first-edge = λ s h. f .states s h .starts;
           last-edge = λ s h. f .states s h .ends;
           edge-count = λ s h. f .states s h .count;
-          next-edge = λ i h. f .edges i (omega (arith, map-long edgeBack (T Edges))) .onward ∙ ap (λ (e : Edge). next (edgesIn T) (e .source) i) (sym (edge-at i));
+          next-edge = λ i h. f .edges i (omega (arith, length-map (T Edges) edgeBack)) .onward ∙ ap (λ (e : Edge). next (edgesIn T) (e .source) i) (sym (edge-at i));
         })
 
     flags-made : (s : ℕ) (h : s < length (T States)) → (names 8 (at T States s stFlags) ≡ true) × (flag4 (row T States s) ≡ decides (statesIn T) (numbers flag2 (T States)) (rulesIn T) (edgesIn T) s)
@@ -425,7 +425,7 @@ module _ (T : Table → List (List ℤ)) (token : ℤ) where
                       edges = λ i h. let e = f .edges i h in both (both (e .kind) (listed-names (length (T States)) (at T Edges i edSource) (e .source) (from-listed i h))) (e .target);
                       arguments = all-read;
                       climbs = as-chained .0;
-                      counted = as-chained .1 ∙ map-long edgeBack (T Edges);
+                      counted = as-chained .1 ∙ length-map (T Edges) edgeBack;
                       starts = λ R h. f .rules R h .start;
                       stops = λ R h. f .rules R h .stop;
                     };

@@ -7,7 +7,7 @@ use Prim.Native.Nat.{ℕ, zero, suc, _+_, _-_, _*_, _≤_, _<_}
 use native.Mathlib.Omega.{arith}
 use lib.Dec.{ltb, eqb}
 use lib.IntN.{ℤ, pos}
-use lib.ListN.{length, getD, take, drop, length-take, length-drop, take-append-drop}
+use lib.ListN.{length, getD, take, drop, length-take, length-drop, take-append-drop, length-map}
 use lib.Seq.{drop-drop, drop-length, drop-cons}
 use borrow.Author.Tests.{eq-eqb, ne-eqb, eqb-true}
 use Rattle.format.specs.Reading.{Table, States, Edges, Ranges, Sets, Rules, Modes, Decisions, Actions, Scratch, pick}
@@ -21,7 +21,7 @@ use Rattle.laws.specs.Gives.{Every, every-at}
 use Rattle.laws.specs.Rows.{Wide}
 use Rattle.laws.specs.Fits.{Roomed}
 use Rattle.laws.specs.Own.{same-true}
-use Rattle.rewriting.specs.Formed.{natural, Formed}
+use Rattle.rewriting.specs.Formed.{natural, setRow, Formed}
 use Rattle.rewriting.specs.Found.{most, Found}
 use Rattle.rewriting.specs.Tests.{both, left, right, natural-size}
 use Rattle.rewriting.specs.Plain.{back}
@@ -70,7 +70,7 @@ pub record RuleFine (T : Table → List (List ℤ)) (R : ℕ) : Type 0 where
 -- Sets in a row, from the range b on, up to the last of them.
 abbrev pub inRow : ℕ → ℕ → List (List ℤ) → Bool
 inRow total b [] = eqb b total
-inRow total b (x ∷ l) = let rest = inRow total (b + cellSize x seCount) l in same (cell x seFirst) (pos b) && natural (cell x seCount) && rest
+inRow total b (x ∷ l) = let rest = inRow total (b + cellSize x seCount) l in setRow b x && rest
 
 pub record Fine (T : Table → List (List ℤ)) (token : ℤ) : Type 0 where
   pub formed : Formed (recovered T token)
@@ -153,7 +153,7 @@ flag-at q X s h = ap (λ (n : ℕ). among n (numbers q X)) (omega arith) ∙ fla
 pub row-total : (total b : ℕ) (X : List (List ℤ)) → inRow total b X ≡ true → b ≤ total
 row-total total b [] h = let e = eqb-true b total h in omega arith
 row-total total b (x ∷ X) h =
-    let r = right (same (cell x seFirst) (pos b) && natural (cell x seCount)) (inRow total (b + cellSize x seCount) X) h in
+    let r = right (setRow b x) (inRow total (b + cellSize x seCount) X) h in
     omega (arith, row-total total (b + cellSize x seCount) X r)
 
 abbrev pub counts : List (List ℤ) → List ℕ
@@ -163,7 +163,7 @@ module _ {A : Type 0} (R : List A) where
   pub row-cuts : (b : ℕ) (X : List (List ℤ)) → inRow (length R) b X ≡ true → (map length (cuts (drop b R) (counts X)) ≡ counts X) × (flat (cuts (drop b R) (counts X)) ≡ drop b R)
   row-cuts b [] h = let e = eqb-true b (length R) h in (refl, sym (rw e (drop-length R)))
   row-cuts b (x ∷ X) h =
-      let r = right (same (cell x seFirst) (pos b) && natural (cell x seCount)) (inRow (length R) (b + cellSize x seCount) X) h in
+      let r = right (setRow b x) (inRow (length R) (b + cellSize x seCount) X) h in
       let l : b + cellSize x seCount ≤ length R = row-total (length R) (b + cellSize x seCount) X r in
       let ih = row-cuts (b + cellSize x seCount) X r in
       let d : drop (cellSize x seCount) (drop b R) ≡ drop (b + cellSize x seCount) R = drop-drop (cellSize x seCount) b R in
@@ -176,8 +176,8 @@ module _ (R : List Range) where
   row-sets : (b : ℕ) (X : List (List ℤ)) → Every (Wide 2) X → inRow (length R) b X ≡ true → setRecords b (cuts (drop b R) (counts X)) ≡ X
   row-sets b [] w h = refl
   row-sets b (x ∷ X) w h =
-      let f = left (same (cell x seFirst) (pos b) && natural (cell x seCount)) (inRow (length R) (b + cellSize x seCount) X) h in
-      let r = right (same (cell x seFirst) (pos b) && natural (cell x seCount)) (inRow (length R) (b + cellSize x seCount) X) h in
+      let f = left (setRow b x) (inRow (length R) (b + cellSize x seCount) X) h in
+      let r = right (setRow b x) (inRow (length R) (b + cellSize x seCount) X) h in
       let l : b + cellSize x seCount ≤ length R = row-total (length R) (b + cellSize x seCount) X r in
       let d : drop (cellSize x seCount) (drop b R) ≡ drop (b + cellSize x seCount) R = drop-drop (cellSize x seCount) b R in
       let k : length (take (cellSize x seCount) (drop b R)) ≡ cellSize x seCount = length-take (cellSize x seCount) (drop b R) ∙ omega (arith, length-drop b R) in
@@ -207,10 +207,6 @@ module _ (R : List Range) where
       append-left : (l m n : List Range) → l ++ m ≡ l ++ n → m ≡ n
       append-left [] m n e = e
       append-left (a ∷ l) m n e = append-left l m n (ap (λ (z : List Range). drop 1 z) e)
-
-pub map-long : {A B : Type 0} (g : A → B) (l : List A) → length (map g l) ≡ length l
-map-long g [] = refl
-map-long g (a ∷ l) = ap suc (map-long g l)
 
 -- ---- both ways
 
@@ -293,7 +289,7 @@ module _ (T : Table → List (List ℤ)) (token : ℤ) (wide : (t : Table) → E
   fine-records f = go (f .order) (row-cuts (map rangeBack (T Ranges)) 0 (T Sets) inside)
     where
       inside : inRow (length (map rangeBack (T Ranges))) 0 (T Sets) ≡ true
-      inside = subst (λ (n : ℕ). inRow n 0 (T Sets) ≡ true) (sym (map-long rangeBack (T Ranges))) (f .sets)
+      inside = subst (λ (n : ℕ). inRow n 0 (T Sets) ≡ true) (sym (length-map (T Ranges) rangeBack)) (f .sets)
 
       go : edgesOf r ≡ edgesIn T → (map length (cuts (map rangeBack (T Ranges)) (counts (T Sets))) ≡ counts (T Sets)) × (flat (cuts (map rangeBack (T Ranges)) (counts (T Sets))) ≡ map rangeBack (T Ranges)) → (t : Table) → records r t ≡ T t
       go es c States =
@@ -328,7 +324,7 @@ module _ (T : Table → List (List ℤ)) (token : ℤ) (wide : (t : Table) → E
         order = es;
         states = λ s k. row-state s k (to-rows (stateWords r (edgesIn T)) stateBack (T States) st s k);
         edges = λ i k. row-edge i (to-rows (edgeWords r (edgesIn T)) edgeBack (T Edges) ed i k);
-        sets = subst (λ (n : ℕ). inRow n 0 (T Sets) ≡ true) (map-long rangeBack (T Ranges)) (sets-row (map rangeBack (T Ranges)) 0 (T Sets) (omega arith) (q Sets) fl);
+        sets = subst (λ (n : ℕ). inRow n 0 (T Sets) ≡ true) (length-map (T Ranges) rangeBack) (sets-row (map rangeBack (T Ranges)) 0 (T Sets) (omega arith) (q Sets) fl);
         rules = λ R k. row-rule R (to-rows (ruleWords r) ruleBack (T Rules) (q Rules) R k);
         modes = rows-natural (T Modes) (q Modes);
         decisions = rows-natural (T Decisions) (q Decisions);

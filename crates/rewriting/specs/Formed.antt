@@ -10,7 +10,8 @@ use Rattle.format.specs.Reading.{pick}
 use Rattle.format.specs.Sets.{Range, key}
 use Rattle.format.specs.Sections.{State, Edge, Action, Read, none, same, among, follows}
 use Rattle.format.specs.Links.{those, numbers, every, names}
-use Rattle.format.specs.Writing.{link}
+use Rattle.format.specs.Places.{seFirst, seCount}
+use Rattle.format.specs.Writing.{link, cell}
 
 abbrev pub natural : ℤ → Bool
 natural (pos n) = true
@@ -45,6 +46,10 @@ stateRead x =
 abbrev pub kept : ℕ → List Range → Bool
 kept b [] = true
 kept b (x ∷ l) = let rest = kept (key (x .stop) + 2) l in leb b (key (x .start)) && leb (key (x .start)) (key (x .stop)) && rest
+
+-- A set's record, with b ranges in the sets before it.
+abbrev pub setRow : ℕ → List ℤ → Bool
+setRow b x = same (cell x seFirst) (pos b) && natural (cell x seCount)
 
 -- p, q and r by the type; n sets are listed.
 abbrev pub argsRead : ℕ → Edge → Bool

@@ -39,15 +39,15 @@ more-roomed small large r g m =
 -- ---- what was read comes of its written words, in any room that its records have
 
 module _ (lent : Table → ℕ) (ws : List ℤ) (at : ℕ) (r : Read) (n : ℕ) (e : run dialect ws (room lent) at ≡ ok r n) where
-  pub written-again : (rooms : Table → ℕ) → Roomed rooms r → (zs : List ℤ) → run dialect (written r ++ zs) rooms 0 ≡ ok (plain r) (length (written r))
-  written-again rooms m zs =
+  pub read-again : (rooms : Table → ℕ) → Roomed rooms r → (zs : List ℤ) → run dialect (written r ++ zs) rooms 0 ≡ ok (plain r) (length (written r))
+  read-again rooms m zs =
       subst (λ (x : Read). run dialect (wordsOf x ++ zs) rooms 0 ≡ ok (plain r) (length (wordsOf x))) (sym (recovered-records r))
       (words-run rooms (plain r) (plain-formed r (read-formed ws (room lent) at r n e)) (plain-roomed rooms r m) zs)
 
   -- "Decoding what was written, with the same room, gives the same records"
   pub decodes-again : (run dialect (written r) (room lent) 0 ≡ ok (plain r) (length (written r))) × ((t : Table) → records (plain r) t ≡ records r t)
   decodes-again =
-      (subst (λ (ws : List ℤ). run dialect ws (room lent) 0 ≡ ok (plain r) (length (written r))) (append-nil (written r)) (written-again (room lent) (read-roomed lent ws at r n e) []), plain-records r)
+      (subst (λ (ws : List ℤ). run dialect ws (room lent) 0 ≡ ok (plain r) (length (written r))) (append-nil (written r)) (read-again (room lent) (read-roomed lent ws at r n e) []), plain-records r)
 
 -- ---- "two accepted word lists give the same written words exactly when they gave the same records and max token type"
 
@@ -68,8 +68,8 @@ module _ (lent : Table → ℕ) (ws : List ℤ) (at : ℕ) (r : Read) (n : ℕ) 
 
       to : written r ≡ written r′ → ((t : Table) → records r t ≡ records r′ t) × (r .token ≡ r′ .token)
       to w =
-          let x = written-again lent ws at r n e rooms (more-roomed (room lent) rooms r (λ t. omega arith) (read-roomed lent ws at r n e)) [] in
-          let y = written-again lent′ ws′ at′ r′ n′ e′ rooms (more-roomed (room lent′) rooms r′ (λ t. omega arith) (read-roomed lent′ ws′ at′ r′ n′ e′)) [] in
+          let x = read-again lent ws at r n e rooms (more-roomed (room lent) rooms r (λ t. omega arith) (read-roomed lent ws at r n e)) [] in
+          let y = read-again lent′ ws′ at′ r′ n′ e′ rooms (more-roomed (room lent′) rooms r′ (λ t. omega arith) (read-roomed lent′ ws′ at′ r′ n′ e′)) [] in
           let p : plain r ≡ plain r′ = same-read (sym x ∙ ap (λ (u : List ℤ). run dialect (u ++ []) rooms 0) w ∙ y) in
           (λ t. sym (plain-records r t) ∙ ap (λ (q : Read). records q t) p ∙ plain-records r′ t, sym (plain-token r) ∙ ap (λ (q : Read). q .token) p ∙ plain-token r′)
 

@@ -16,6 +16,6 @@ pub mod All
 pub mod Fine
 pub mod Climbs
 pub mod Checks
-pub mod Flat
-pub mod Rowed
+pub mod Held
+pub mod SetsInRow
 pub mod Bits

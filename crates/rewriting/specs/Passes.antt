@@ -7,12 +7,11 @@ use lib.Dec.{leb, eqb}
 use lib.IntN.{ℤ, pos}
 use lib.ListN.{getD, take, drop}
 use Rattle.format.specs.Sets.{rangesOf}
-use Rattle.format.specs.Sections.{same}
 use Rattle.format.specs.Links.{names}
-use Rattle.format.specs.Places.{stKind, stFlags, edKind, edSource, edTarget, seFirst, seCount, ruStart, acKind}
+use Rattle.format.specs.Places.{stKind, stFlags, edKind, edSource, edTarget, seCount, ruStart, acKind}
 use Rattle.format.specs.Tables.{rowAt}
 use Rattle.format.specs.Writing.{cell, cellSize, stateBack, edgeBack, actionBack, rowsOf}
-use Rattle.rewriting.specs.Formed.{natural, stateRead, kept, argsRead, actionRead}
+use Rattle.rewriting.specs.Formed.{natural, stateRead, kept, setRow, argsRead, actionRead}
 
 -- A test of all numbers below n.
 abbrev pub all : ℕ → (ℕ → Bool) → Bool
@@ -58,7 +57,7 @@ setsFrom m ra b [] = eqb b m
 setsFrom m ra b (x ∷ l) =
     let n = cellSize x seCount in
     let rest = setsFrom m ra (b + n) l in
-    same (cell x seFirst) (pos b) && natural (cell x seCount) && leb (b + n) m && kept 0 (rangesOf (take (2 * n) (drop (2 * b) ra))) && rest
+    setRow b x && leb (b + n) m && kept 0 (rangesOf (take (2 * n) (drop (2 * b) ra))) && rest
 
 abbrev pub setsFine : ℕ → List ℤ → ℕ → List ℤ → Bool
 setsFine k se m ra = setsFrom m ra 0 (rowsOf 2 k se)

@@ -27,10 +27,10 @@ use Rattle.rewriting.specs.Tests.{lie, both, left, right, six, eight-all, same-
 use Rattle.rewriting.specs.Passes.{all, stateFine, statesFine, edgeFine, edgesFine, argumentsFine, startsFine, namesFine, actionFine, actionsFine, setsFine}
 use Rattle.rewriting.specs.All.{all-exactly}
 use Rattle.rewriting.specs.Fine.{statesIn, edgesIn, rulesOf, at, inRow}
-use Rattle.rewriting.specs.Rowed.{sets-exactly}
+use Rattle.rewriting.specs.SetsInRow.{sets-exactly}
 use Rattle.rewriting.specs.Climbs.{sum, sum-of, sources, climb, climbs, climbs-same}
 use Rattle.rewriting.specs.Checks.{own-first, row, Joined, Checked}
-use Rattle.rewriting.specs.Flat.{rows-take, inside-lie, rows-long, rows-at, Lie, lent-exactly}
+use Rattle.rewriting.specs.Held.{rows-take, inside-lie, rows-long, rows-at, Lie, lent-exactly}
 use Rattle.serializer.specs.Tests.{fewIn, joinedIn, markedIn, othersIn, fine}
 use Rattle.wiring.specs.Given.{word-at, rows-states, rows-edges, rows-rules, states-long, edges-long, state-is, edge-is, state-word, edge-word, rule-word, edge-number}
 use Rattle.wiring.specs.Chains.{sourceIn, nextIn, countIn, chainFine, chainsFine}

@@ -25,12 +25,15 @@ joinedIn n m k c st ed ru = statesFine n st && edgesFine n m ed && argumentsFine
 abbrev pub markedIn : ℕ → ℕ → ℕ → List ℤ → List ℤ → List ℤ → Bool
 markedIn n m k st ed ru = let o = ownCount m ed in returnsFine n m k st ed ru o && marksFine n m k st ed o && decisionsFine n m k st ed ru
 
+-- Both: they are linked as a decode links them.
+abbrev pub linkedIn : ℕ → ℕ → ℕ → ℕ → List ℤ → List ℤ → List ℤ → Bool
+linkedIn n m k c st ed ru = joinedIn n m k c st ed ru && markedIn n m k st ed ru
+
 -- The sets, the modes, the decisions and the actions.
 abbrev pub othersIn : ℕ → ℕ → ℕ → ℕ → ℕ → List ℤ → List ℤ → List ℤ → List ℤ → List ℤ → Bool
 othersIn r c o d a ra se mo de ac = setsFine c se r ra && namesFine o mo && namesFine d de && actionsFine a ac
 
 abbrev pub fine : (Table → List ℤ) → (Table → ℕ) → Bool
 fine tables counts =
-    fewIn counts && (joinedIn (counts States) (counts Edges) (counts Rules) (counts Sets) (tables States) (tables Edges) (tables Rules)
-    && markedIn (counts States) (counts Edges) (counts Rules) (tables States) (tables Edges) (tables Rules))
+    fewIn counts && linkedIn (counts States) (counts Edges) (counts Rules) (counts Sets) (tables States) (tables Edges) (tables Rules)
     && othersIn (counts Ranges) (counts Sets) (counts Modes) (counts Decisions) (counts Actions) (tables Ranges) (tables Sets) (tables Modes) (tables Decisions) (tables Actions)

@@ -1,4 +1,4 @@
-// The counts of a writing: "a count exceeds its table's whole records", or the most that any room holds.
+// Document 02, R-1, refusal 15: "a count exceeds its table's whole records", or the most that any room holds.
 
 ghost use mathlib.Core.Path.{_≡_};
 ghost use Prim.Native.Nat.{_/_, _<_};
@@ -6,6 +6,9 @@ ghost use lib.Dec.{leb};
 ghost use lib.ListN.{length};
 ghost use Rattle.format.specs.Tables.{nine};
 ghost use Rattle.serializer.specs.Tests.{fewIn};
+
+// "Room is the number of whole records, counted as 65,536 at most".
+const MOST: usize = 65536;
 
 // Whether the count is within the table's whole records.
 pub fn fits(table: &[i32], width: usize, count: usize) -> bool
@@ -28,12 +31,12 @@ pub fn few(
 ) -> bool
     ensures { λ r. ⌜ r ≡ fewIn (nine states edges ranges sets rules modes decisions actions 0) ⌝ }
 {
-    (states <= 65536)
-        & (edges <= 65536)
-        & (ranges <= 65536)
-        & (sets <= 65536)
-        & (rules <= 65536)
-        & (modes <= 65536)
-        & (decisions <= 65536)
-        & (actions <= 65536)
+    (states <= MOST)
+        & (edges <= MOST)
+        & (ranges <= MOST)
+        & (sets <= MOST)
+        & (rules <= MOST)
+        & (modes <= MOST)
+        & (decisions <= MOST)
+        & (actions <= MOST)
 }

@@ -1,4 +1,4 @@
-// Refusal 15: "a count exceeds its table's whole records or no word list, in any room, decodes to these records".
+// Document 02, R-1, refusal 15: "a count exceeds its table's whole records or no word list, in any room, decodes to these records".
 
 ghost use mathlib.Core.Path.{_≡_};
 ghost use mathlib.Core.List.{[]};
@@ -8,13 +8,14 @@ ghost use lib.IntN.{ℤ};
 ghost use lib.ListN.{length};
 ghost use Rattle.format.specs.Tables.{nine};
 ghost use Rattle.format.specs.Writing.{given, inside, comes};
-ghost use Rattle.rewriting.specs.Flat.{Lie};
+ghost use Rattle.rewriting.specs.Held.{Lie};
 ghost use Rattle.serializer.specs.Tests as spec;
 use crate::counts;
 use crate::linked;
 use crate::others;
 use format::action;
 use format::edge;
+use format::name;
 use format::range;
 use format::rule;
 use format::set;
@@ -48,8 +49,8 @@ fn fit(
         & counts::fits(ranges, range::WIDTH, ranges_count)
         & counts::fits(sets, set::WIDTH, sets_count)
         & counts::fits(rules, rule::WIDTH, rules_count)
-        & counts::fits(modes, 1, modes_count)
-        & counts::fits(decisions, 1, decisions_count)
+        & counts::fits(modes, name::WIDTH, modes_count)
+        & counts::fits(decisions, name::WIDTH, decisions_count)
         & counts::fits(actions, action::WIDTH, actions_count)
 }
 

@@ -1,16 +1,18 @@
-// The states, the edges and the rules of a writing: n states, m edges, k rules.
+// Document 02, R-1, refusal 15: the states, the edges and the rules. There are n states, m edges, k rules and c sets.
 
 ghost use mathlib.Core.Path.{_≡_};
-ghost use mathlib.Core.Bool.{_&&_};
 ghost use Prim.Native.Nat.{_*_, _≤_};
 ghost use lib.ListN.{length};
 ghost use Rattle.links.specs.Lent.{Listed};
 ghost use Rattle.atn.specs.Records.{Linked};
 ghost use Rattle.wiring.specs.Marks.{marksFine};
-ghost use Rattle.serializer.specs.Tests.{joinedIn, markedIn};
+ghost use Rattle.serializer.specs.Tests.{joinedIn, markedIn, linkedIn};
 use format::rule;
 
-// Whether they fit together; c sets are listed. The scratch is for the rules' stops, three words a rule.
+// So many states and rules are served by the small array.
+const SMALL: usize = 1024;
+
+// Whether they fit together. The scratch is for the rules' stops, three words a rule.
 fn joined(
     states: &[i32],
     n: usize,
@@ -100,7 +102,7 @@ fn linked_in(
 ) -> bool
     requires { ⌜ (Listed 8 n (length (now states))) × (Listed 8 m (length (now edges))) × (Listed 3 k (length (now rules))) × (c ≤ 65536) ⌝ }
     requires { ⌜ (3 * k ≤ length (now scratch)) × (4 * n ≤ length (now scratch)) ⌝ }
-    ensures { λ r. ⌜ r ≡ (joinedIn n m k c (now (states .entry)) (now (edges .entry)) (now (rules .entry)) && markedIn n m k (now (states .entry)) (now (edges .entry)) (now (rules .entry))) ⌝ }
+    ensures { λ r. ⌜ r ≡ linkedIn n m k c (now (states .entry)) (now (edges .entry)) (now (rules .entry)) ⌝ }
 {
     if !joined(states, n, edges, m, rules, k, c, scratch) {
         return false;
@@ -109,7 +111,7 @@ fn linked_in(
 }
 
 // Words for the rules' stops, three a rule, and then for the search, four a state. There are 65,536 of either at most; most dialects have
-// fewer than 1,024, and do not wait until a mebibyte is laid out.
+// no more than 1,024, and do not wait until a mebibyte is laid out.
 fn blank() -> [i32; 262144]
     ensures { λ r. ⌜ 262144 ≡ length r ⌝ }
 {
@@ -132,7 +134,7 @@ fn linked_large(
     c: usize,
 ) -> bool
     requires { ⌜ (Listed 8 n (length (now states))) × (Listed 8 m (length (now edges))) × (Listed 3 k (length (now rules))) × (c ≤ 65536) ⌝ }
-    ensures { λ r. ⌜ r ≡ (joinedIn n m k c (now (states .entry)) (now (edges .entry)) (now (rules .entry)) && markedIn n m k (now (states .entry)) (now (edges .entry)) (now (rules .entry))) ⌝ }
+    ensures { λ r. ⌜ r ≡ linkedIn n m k c (now (states .entry)) (now (edges .entry)) (now (rules .entry)) ⌝ }
 {
     let mut space = blank();
     let scratch: &mut [i32] = &mut space;
@@ -149,7 +151,7 @@ fn linked_small(
     c: usize,
 ) -> bool
     requires { ⌜ (Listed 8 n (length (now states))) × (Listed 8 m (length (now edges))) × (Listed 3 k (length (now rules))) × (c ≤ 65536) × (n ≤ 1024) × (k ≤ 1024) ⌝ }
-    ensures { λ r. ⌜ r ≡ (joinedIn n m k c (now (states .entry)) (now (edges .entry)) (now (rules .entry)) && markedIn n m k (now (states .entry)) (now (edges .entry)) (now (rules .entry))) ⌝ }
+    ensures { λ r. ⌜ r ≡ linkedIn n m k c (now (states .entry)) (now (edges .entry)) (now (rules .entry)) ⌝ }
 {
     let mut space = small_blank();
     let scratch: &mut [i32] = &mut space;
@@ -167,12 +169,12 @@ pub fn linked(
     c: usize,
 ) -> bool
     requires { ⌜ (Listed 8 n (length (now states))) × (Listed 8 m (length (now edges))) × (Listed 3 k (length (now rules))) × (c ≤ 65536) ⌝ }
-    ensures { λ r. ⌜ r ≡ (joinedIn n m k c (now (states .entry)) (now (edges .entry)) (now (rules .entry)) && markedIn n m k (now (states .entry)) (now (edges .entry)) (now (rules .entry))) ⌝ }
+    ensures { λ r. ⌜ r ≡ linkedIn n m k c (now (states .entry)) (now (edges .entry)) (now (rules .entry)) ⌝ }
 {
-    if n > 1024 {
+    if n > SMALL {
         return linked_large(states, n, edges, m, rules, k, c);
     }
-    if k > 1024 {
+    if k > SMALL {
         return linked_large(states, n, edges, m, rules, k, c);
     }
     linked_small(states, n, edges, m, rules, k, c)

@@ -1,4 +1,4 @@
-// The sets, the modes, the decisions and the actions of a writing.
+// Document 02, R-1, refusal 15: the sets with their ranges, the modes, the decisions and the actions.
 
 ghost use mathlib.Core.Path.{_≡_};
 ghost use Prim.Native.Nat.{_*_, _≤_};
@@ -20,7 +20,7 @@ pub fn fine(
     requires { ⌜ (2 * «range_count» ≤ length (now ranges)) × (2 * «set_count» ≤ length (now sets)) × (1 * «mode_count» ≤ length (now modes)) × (1 * «decision_count» ≤ length (now decisions)) × (3 * «action_count» ≤ length (now actions)) ⌝ }
     ensures { λ r. ⌜ r ≡ othersIn «range_count» «set_count» «mode_count» «decision_count» «action_count» (now (ranges .entry)) (now (sets .entry)) (now (modes .entry)) (now (decisions .entry)) (now (actions .entry)) ⌝ }
 {
-    if !checking::sets::sets_fine(sets, set_count, ranges, range_count) {
+    if !checking::kept::sets_fine(sets, set_count, ranges, range_count) {
         return false;
     }
     if !checking::passes::names_fine(modes, mode_count) {

@@ -2,6 +2,7 @@
 
 use crate::page;
 use format::Decoded;
+use libc::STDOUT_FILENO;
 
 // The most bytes of a file, and its words.
 const MOST: usize = 131072;
@@ -10,10 +11,7 @@ const WORDS: usize = 32768;
 
 // One line about a file that is not shown.
 fn fault(name: &[u8], why: &[u8]) {
-    printing::text(name);
-    printing::text(b": ");
-    printing::text(why);
-    printing::text(b"\n");
+    printing::onto::line(STDOUT_FILENO, name, why);
 }
 
 // The words, decoded into lent tables, and printed.
@@ -61,7 +59,7 @@ fn decode_into(
                 actions,
             );
         }
-        Decoded::Refused(r) => page::refusal(name, r),
+        Decoded::Refused(r) => printing::refusals::undecoded(STDOUT_FILENO, name, r),
     }
 }
 

@@ -1,11 +1,9 @@
-// What is printed of one dialect: its counts and records, its graph, or its refusal.
+// What is printed of one dialect: its counts and records, or its graph.
 
 use crate::lines;
 use crate::lines::About;
-use crate::names;
 use crate::records;
 use format::Counts;
-use format::Refusal;
 
 fn counted(name: &[u8], n: usize) {
     printing::text(name);
@@ -60,22 +58,4 @@ pub fn graph(c: Counts, states: &[i32], edges: &[i32], all_ranges: &[i32], all_s
     printing::text(b"digraph dialect {\n  rankdir=LR;\n  node [shape=circle];\n");
     lines::all(About::Node, c.states, states, edges, sets, ranges);
     printing::text(b"}\n");
-}
-
-// Number, meaning, field, place and value; where there is no room, also how much there was.
-pub fn refusal(name: &[u8], r: Refusal) {
-    printing::text(name);
-    counted(b": refused ", r.number as usize);
-    printing::text(b": ");
-    names::refusal(r.number);
-    counted(b"; field ", r.field as usize);
-    printing::text(b" (");
-    names::field(r.field);
-    counted(b"), place ", r.place);
-    printing::text(b", value ");
-    printing::number(r.value);
-    if r.number == 12 {
-        printing::text(b"; here is room for 32768 records of each table");
-    }
-    printing::text(b"\n");
 }

@@ -1,1 +1,2 @@
+-- Lemmas of the functions' proofs.
 mod Signs

@@ -5,7 +5,7 @@ use mathlib.Core.Bool.{true}
 use Prim.Native.Nat.{ℕ, zero, suc, _+_, _*_, _<_}
 use native.Mathlib.Omega.{arith}
 use lib.IntN.{ℤ, pos, negsuc}
-use lib.ListN.{length, getD, List·getD-map}
+use lib.ListN.{length, getD, List·getD-map, length-map}
 use Rattle.format.specs.Reading.{Table, States, Edges, Rules}
 use Rattle.format.specs.Sections.{size}
 use Rattle.format.specs.Links.{stateAt}
@@ -14,9 +14,9 @@ use Rattle.atn.specs.Records.{noState, edgeAt}
 use Rattle.tables.specs.Words.{spot, numberAt}
 use Rattle.rewriting.specs.Formed.{natural}
 use Rattle.rewriting.specs.Tests.{lie}
-use Rattle.rewriting.specs.Fine.{statesIn, edgesIn, rulesOf, at, map-long}
+use Rattle.rewriting.specs.Fine.{statesIn, edgesIn, rulesOf, at}
 use Rattle.rewriting.specs.Checks.{row}
-use Rattle.rewriting.specs.Flat.{rows-long, rows-at, row-word}
+use Rattle.rewriting.specs.Held.{rows-long, rows-at, row-word}
 
 -- a member of a list, whatever stands for what is missing
 pub any-default : {A : Type 0} (l : List A) (i : ℕ) (d e : A) → i < length l → getD l i d ≡ getD l i e
@@ -42,13 +42,13 @@ module _ (tables : Table → List ℤ) (counts : Table → ℕ) where
   rows-rules = rows-long 3 (counts Rules) (tables Rules)
 
   pub states-long : length (statesIn T) ≡ counts States
-  states-long = map-long stateBack (T States) ∙ rows-states
+  states-long = length-map (T States) stateBack ∙ rows-states
 
   pub edges-long : length (edgesIn T) ≡ counts Edges
-  edges-long = map-long edgeBack (T Edges) ∙ rows-edges
+  edges-long = length-map (T Edges) edgeBack ∙ rows-edges
 
   pub rules-long : rulesOf T ≡ counts Rules
-  rules-long = map-long ruleBack (T Rules) ∙ rows-rules
+  rules-long = length-map (T Rules) ruleBack ∙ rows-rules
 
   pub state-is : (s : ℕ) → s < counts States → stateAt (statesIn T) s ≡ stateBack (row T States s)
   state-is s k = any-default (statesIn T) s noState (stateBack []) (omega (arith, states-long)) ∙ List·getD-map stateBack (T States) s []

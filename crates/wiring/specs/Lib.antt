@@ -6,6 +6,6 @@ pub mod Returns
 pub mod Marks
 pub mod Decisions
 pub mod Linked
-pub mod Words
+pub mod Joined
 pub mod Met
 pub mod Marked

@@ -22,12 +22,12 @@ use Rattle.rewriting.specs.Tests.{lie}
 use Rattle.rewriting.specs.All.{all-exactly}
 use Rattle.rewriting.specs.Fine.{statesIn, edgesIn, rulesIn, rulesOf, at}
 use Rattle.rewriting.specs.Checks.{row, flag4, eights, Joined, state-tests}
-use Rattle.rewriting.specs.Flat.{Lie}
+use Rattle.rewriting.specs.Held.{Lie}
 use Rattle.wiring.specs.Given.{rows-states, rules-long, edge-is, state-word, edge-word}
 use Rattle.wiring.specs.Marks.{markIn, ownFrom, ownCount, own-here, own-on, own-end, markFor, marksFine}
 use Rattle.wiring.specs.Decisions.{decisionFine, decisionsFine}
 use Rattle.wiring.specs.Linked.{held}
-use Rattle.wiring.specs.Words.{decides-at}
+use Rattle.wiring.specs.Joined.{decides-at}
 
 -- ---- the first derived edge
 

@@ -28,10 +28,10 @@ use Rattle.rewriting.specs.Formed.{natural, argsRead}
 use Rattle.rewriting.specs.Tests.{lie, both, left, right}
 use Rattle.rewriting.specs.Fine.{statesIn, edgesIn, rulesOf, at}
 use Rattle.rewriting.specs.Checks.{row, Joined, edge-tests, chained}
-use Rattle.rewriting.specs.Flat.{derived-along}
+use Rattle.rewriting.specs.Held.{derived-along}
 use Rattle.wiring.specs.Given.{rows-states, rows-edges, states-long, edges-long, edge-is, state-word, edge-word, edge-number}
 use Rattle.wiring.specs.Returns.{isReturn, met, metOn, metAlong, metFrom, returnsFine}
-use Rattle.wiring.specs.Words.{returns-at}
+use Rattle.wiring.specs.Joined.{returns-at}
 
 -- ---- edges that are met one after another
 

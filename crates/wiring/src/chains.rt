@@ -1,5 +1,5 @@
-// "A state's edges are chained in word order": whether first edge, last edge, edge count and next edge are those of the chains.
-// Each state's edges go up, and all states' counts together are all edges, so that none was missed.
+// Document 02, R-1, refusal 15: whether first edge, last edge, edge count and next edge are those of the chains (document 01: "A state's
+// edges are chained in word order"). Each state's edges go up, and all states' counts together are all edges, so that none was missed.
 
 ghost use mathlib.Core.Path.{_≡_};
 ghost use mathlib.Core.Bool.{_&&_};

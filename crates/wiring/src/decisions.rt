@@ -1,4 +1,4 @@
-// "Flag 4 is set on a type 10 state if ..": whether flag 4 stands exactly where decode sets it.
+// Document 02, R-1, refusal 15: whether flag 4 stands exactly where decode sets it (document 01: "Flag 4 is set on a type 10 state if ..").
 
 ghost use mathlib.Core.Path.{_≡_};
 ghost use Prim.Native.Nat.{_<_};

@@ -1,4 +1,5 @@
-// "Mark: 0 plain, 1 derived return edge, 2 tail call": how many edges come before the first derived one, and whether all marks are right.
+// Document 02, R-1, refusal 15: how many edges come before the first derived one, and whether all marks are right (document 01: "Mark: 0
+// plain, 1 derived return edge, 2 tail call").
 
 ghost use mathlib.Core.Path.{_≡_};
 ghost use Prim.Native.Nat.{_*_, _≤_, _<_};

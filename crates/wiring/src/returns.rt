@@ -1,4 +1,4 @@
-// Return edges: whether the edges behind the first o are the return edges of those, "by source state and then chain order".
+// Document 02, R-1, refusal 15: whether the edges behind the first o are the return edges of those, "by source state and then chain order".
 // j is the number of the return edge that is to come next; m + 1, which no edge has, once one was another than it should be.
 
 ghost use mathlib.Core.Path.{_≡_};

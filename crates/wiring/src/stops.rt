@@ -1,4 +1,5 @@
-// "A rule's stop is its highest-numbered state of type 7 with that rule, else -1": whether the rules' table holds the stops that decode finds.
+// Document 02, R-1, refusal 15: whether the rules' table holds the stops that decode finds (document 01: "A rule's stop is its
+// highest-numbered state of type 7 with that rule, else −1").
 
 ghost use mathlib.Core.Path.{_≡_};
 ghost use Prim.Native.Nat.{_*_, _≤_};

@@ -11,7 +11,7 @@ use Rattle.format.specs.Links.{each}
 use Rattle.format.specs.Tables.{rowAt}
 use Rattle.format.specs.Writing.{setForm, rangeBack, cuts, counted, rowsOf}
 use Rattle.rewriting.specs.Checks.{cuts-long}
-use Rattle.rewriting.specs.Flat.{rows-more, rows-part}
+use Rattle.rewriting.specs.Held.{rows-more, rows-part}
 use Rattle.writing.specs.Laid.{Lays}
 use Rattle.writing.specs.Parts.{countOf, inSets, setsBack}
 use Rattle.writing.proofs.Rows.{each-one, back-long, Turned, turned-none, turned-on, turned-all}

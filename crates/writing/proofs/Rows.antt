@@ -12,7 +12,7 @@ use Rattle.format.specs.Links.{numbers, numbersFrom, each}
 use Rattle.format.specs.Tables.{rowAt, stateWord}
 use Rattle.format.specs.Writing.{counted, rowsOf}
 use Rattle.laws.specs.Lists.{each-append, numbers-append}
-use Rattle.rewriting.specs.Flat.{rows-long, rows-more, each-map}
+use Rattle.rewriting.specs.Held.{rows-long, rows-more, each-map}
 use Rattle.writing.specs.Laid.{Lays, lays-none, lays-more, lays-then, lays-before}
 
 pub back-long : {A : Type 0} (g : List ℤ → A) (w n : ℕ) (t : List ℤ) → length (map g (rowsOf w n t)) ≡ n

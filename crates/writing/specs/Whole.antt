@@ -5,17 +5,16 @@ use mathlib.Core.Bool.{true, _&&_}
 use Prim.Native.Nat.{ℕ, _+_, _*_, _≤_}
 use native.Mathlib.Omega.{arith}
 use lib.Dec.{ltb, leb}
-use lib.IntN.{ℤ, pos}
+use lib.IntN.{ℤ}
 use lib.ListN.{length, take, drop}
 use borrow.Author.Tests.{eqb-true}
 use Rattle.format.specs.Reading.{Table, States, Edges, Ranges, Sets, Rules, Modes, Decisions, Actions, pick}
 use Rattle.format.specs.Sets.{rangesOf}
-use Rattle.format.specs.Sections.{Read, same}
+use Rattle.format.specs.Sections.{Read}
 use Rattle.format.specs.Links.{numbers, those}
 use Rattle.format.specs.Tables.{nine, width}
-use Rattle.format.specs.Places.{seFirst, seCount}
-use Rattle.format.specs.Writing.{cell, stateBack, ruleBack, stateNamed, edgeBack, actionBack, flag1, flag2, own, recovered, rowsOf, given, Writing, unwritten, wrote}
-use Rattle.rewriting.specs.Formed.{natural, kept}
+use Rattle.format.specs.Writing.{stateBack, ruleBack, stateNamed, edgeBack, actionBack, flag1, flag2, own, recovered, rowsOf, given, Writing, unwritten, wrote}
+use Rattle.rewriting.specs.Formed.{kept, setRow}
 use Rattle.rewriting.specs.Tests.{right}
 use Rattle.rewriting.specs.Passes.{setsFrom, setsFine}
 use Rattle.writing.specs.Parts.{countOf, inSets, setsBack}
@@ -54,7 +53,7 @@ answer ws m = pick (ltb m (length ws)) (unwritten 16 m) (wrote ws m)
 from-inside : (m : ℕ) (ra : List ℤ) (b : ℕ) (l : List (List ℤ)) → setsFrom m ra b l ≡ true → b + inSets l ≤ m
 from-inside m ra b [] h = omega (arith, eqb-true b m h)
 from-inside m ra b (x ∷ l) h =
-    let row = same (cell x seFirst) (pos b) && natural (cell x seCount) && leb (b + countOf x) m in
+    let row = setRow b x && leb (b + countOf x) m in
     let set = kept 0 (rangesOf (take (2 * countOf x) (drop (2 * b) ra))) in
     omega (arith, from-inside m ra (b + countOf x) l (right (row && set) (setsFrom m ra (b + countOf x) l) h))
 

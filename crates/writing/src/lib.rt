@@ -1,9 +1,9 @@
 // Document 02, R-1, "Write the words for a set of lent tables": the words of the one fixed form, put into a lent output.
 
+mod counted;
 mod putting;
 mod records;
-mod sections;
-mod sets;
+mod set_words;
 
 ghost use mathlib.Core.Path.{_≡_};
 ghost use mathlib.Core.List.{List, [], _∷_};
@@ -55,15 +55,15 @@ pub fn write_words(
         (now (out .entry)) (now (out .exit)) r ⌝ }
 {
     let states_at = write_header(token, out);
-    let ones_at = sections::write_states(states, n, out, states_at);
-    let twos_at = sections::write_flagged(states, n, 1, out, ones_at);
-    let rules_at = sections::write_flagged(states, n, 2, out, twos_at);
-    let modes_at = sections::write_rules(rules, ru, out, rules_at);
-    let sets_at = sections::write_names(modes, mo, out, modes_at);
-    let edges_at = sets::write_sets(sets, se, ranges, ra, out, sets_at);
-    let decisions_at = sections::write_edges(edges, o, out, edges_at);
-    let actions_at = sections::write_names(decisions, de, out, decisions_at);
-    sections::write_actions(actions, ac, out, actions_at)
+    let ones_at = counted::write_states(states, n, out, states_at);
+    let twos_at = counted::write_flagged(states, n, 1, out, ones_at);
+    let rules_at = counted::write_flagged(states, n, 2, out, twos_at);
+    let modes_at = counted::write_rules(rules, ru, out, rules_at);
+    let sets_at = counted::write_names(modes, mo, out, modes_at);
+    let edges_at = set_words::write_sets(sets, se, ranges, ra, out, sets_at);
+    let decisions_at = counted::write_edges(edges, o, out, edges_at);
+    let actions_at = counted::write_names(decisions, de, out, decisions_at);
+    counted::write_actions(actions, ac, out, actions_at)
 }
 
 // The answer once the n words are put: "16 exactly when the output is too short", which is then all zero; else the output behind them is.

@@ -10,19 +10,19 @@ use Rattle.checking.proofs.records.state_read.Tie as tie
 returns : tie.Need-returns
 returns c =
     let s = c .before .before .before in
-    no-loop (stateBack (now (s .before .args .row))) (s .size .ensures) (c .before .if1 .taken)
+    no-loop (stateBack (now (s .before .args .row))) (s .size-at .ensures .0) (c .before .if1 .taken)
     (c .before .before .words-after .ensures) (c .linked .ensures)
 
 returns-2 : tie.Need-returns-2
 returns-2 c =
     let s = c .before .before .before .before in
-    loop-back (stateBack (now (s .before .args .row))) (s .size .ensures) (c .before .if2 .taken)
+    loop-back (stateBack (now (s .before .args .row))) (s .size-at .ensures .0) (c .before .if2 .taken)
     (c .before .before .before .words-after .ensures) (c .linked2 .ensures)
 
 returns-3 : tie.Need-returns-3
 returns-3 c =
     let s = c .before .before .before in
-    no-state (stateBack (now (s .before .args .row))) (s .size .ensures) (omega arith)
+    no-state (stateBack (now (s .before .args .row))) (s .size-at .ensures .0) (omega arith)
 
 pub state-read-spec : {M : Type 1} → statement M
 state-read-spec =

@@ -4,7 +4,7 @@ use mathlib.Core.List.{[]}
 use denote.Ref.{now}
 use borrow.Author.Needs.{needs}
 use Rattle.format.specs.Tables.{nine}
-use Rattle.rewriting.specs.Flat.{inside-lie}
+use Rattle.rewriting.specs.Held.{inside-lie}
 use Rattle.checking.proofs.Tested.{failed, passed}
 use Rattle.serializer.specs.Exactly.{passes-comes}
 use Rattle.serializer.proofs.fine.writable.Statement.{statement}

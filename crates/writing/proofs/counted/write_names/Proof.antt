@@ -1,0 +1,42 @@
+-- `write_names` meets its contract: after i turns the words of the first i records are laid behind the count. Assumes nothing.
+use mathlib.Core.Path.{refl, _∙_}
+use Prim.Native.Nat.{_-_}
+use native.Mathlib.Omega.{arith}
+use borrow.Author.Needs.{needs}
+use Rattle.format.specs.Links.{each}
+use Rattle.format.specs.Tables.{stateWord}
+use Rattle.format.specs.Writing.{stateNamed}
+use Rattle.writing.specs.Laid.{lays-long}
+use Rattle.writing.proofs.Rows.{Turned, turned-none, turned-row, turned-more, turned-counted}
+use Rattle.writing.proofs.counted.write_names.Statement.{statement}
+use Rattle.writing.proofs.counted.write_names.Tie as tie
+
+abbrev Inv-loop : tie.InvT-loop
+Inv-loop names n out₀ at next₀ i₀ out next i = Turned (each (λ x. stateWord (stateNamed x))) 1 1 n names next₀ out₀ out next i
+
+abbrev μ-loop : tie.MeasureT-loop
+μ-loop names n out₀ at next₀ i₀ out next i = n - i
+
+loop-again : tie.Need-loop-again Inv-loop μ-loop
+loop-again c =
+    let row = c .before .before .before in
+    turned-more (row .before .before .loop .inv) (row .before .loop-test .taken) (row .row .ensures) (c .before .put-size .ensures)
+
+returns : tie.Need-returns Inv-loop μ-loop
+returns c = turned-counted stateWord stateNamed (c .before .before .before .put-number .ensures) (c .before .loop .inv) (c .loop-test .left) (omega arith)
+
+pub write-names-spec : {M : Type 1} → statement M
+write-names-spec =
+    tie.close
+    (tie.spec
+    Inv-loop
+    μ-loop
+    (λ c κs. search needs)
+    (λ c. turned-none refl)
+    (λ c κs. omega arith)
+    (λ c κs. omega (arith, turned-row (c .before .before .before .loop .inv) (omega arith) (c .before .row .ensures)))
+    (λ c. omega arith)
+    (λ c. omega arith)
+    loop-again
+    (λ c. lays-long (c .before .loop .inv .lays) ∙ c .before .before .before .put-number .kept .0)
+    returns)
