@@ -1,6 +1,6 @@
 // A state's edges, along its chain. Document 01, "A state's edges are chained in word order, derived ones last."
 
-use crate::edges;
+use crate::edge_text;
 use crate::records;
 
 // So many edges from one on, each as a line or as an arrow.
@@ -9,9 +9,9 @@ pub fn walk(first: i32, count: usize, graph: bool, edges: &[i32], sets: &[i32], 
     let mut left = count;
     while left > 0 {
         if graph {
-            edges::arrow(edges, edge, sets, ranges);
+            edge_text::arrow(edges, edge, sets, ranges);
         } else {
-            edges::line(edges, edge, sets, ranges);
+            edge_text::line(edges, edge, sets, ranges);
         }
         edge = records::index(records::word(edges, 8, edge, 7));
         left -= 1;

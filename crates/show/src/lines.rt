@@ -55,7 +55,7 @@ fn set(i: usize, sets: &[i32], ranges: &[i32]) {
     if i > 65536 {
         return;
     }
-    let part = crate::edges::set_of(sets, ranges, i as i32);
+    let part = crate::edge_text::set_of(sets, ranges, i as i32);
     printing::text(b" {");
     symbols::ranges(part, 65536, true);
     printing::text(b"}");

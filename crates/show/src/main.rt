@@ -3,7 +3,7 @@
 // Graphviz graph instead. What is printed is what the decoder put into the tables (document 01, "Lent tables").
 
 mod chains;
-mod edges;
+mod edge_text;
 mod files;
 mod lines;
 mod names;
