@@ -1,10 +1,10 @@
 -- Document 02, R-1: tables and what is written of them, as one table with a single proof.
 use mathlib.Core.Path.{_≡_, refl}
-use mathlib.Core.List.{List, [], _∷_, _++_}
+use mathlib.Core.List.{List, [], _∷_}
 use Prim.Native.Nat.{ℕ}
 use lib.IntN.{ℤ, pos, negsuc}
 use lib.ListN.{drop}
-use Rattle.format.specs.Reading.{Table, States, Edges, Ranges, Sets, Rules, Modes, Decisions, Actions, run, times, get, index, count, _>>=_}
+use Rattle.format.specs.Reading.{Table, run, times, get, index, count, _>>=_}
 use Rattle.format.specs.Sets.{add, keepOnto}
 use Rattle.format.specs.Sections.{none, version, grammar, linked, following, state, states, named, flags, rule, rules, modes, interval, flagged, set, setsFrom, sets, testA, testB, edge, edges, decisions, action, actions}
 use Rattle.format.specs.Links.{derived, decides, safe, tail}

@@ -10,7 +10,7 @@ use lib.Seq.{take-append-seam}
 use Rattle.format.specs.Reading.{Table, refusal}
 use Rattle.format.specs.Tables.{nine, room, zeros}
 use Rattle.format.specs.Decode.{Answer, decoded}
-use Rattle.format.specs.Writing.{given, Writable, wordsFor, Writing, writing, wrote, Writes, write}
+use Rattle.format.specs.Writing.{given, Writable, wordsFor, Writing, writing, wrote, Writes}
 use Rattle.format.specs.declared.Counts.{Counts}
 use Rattle.format.specs.declared.Decoded.{Decoded}
 use Rattle.format.specs.declared.Decoded.the-variants as D

@@ -47,23 +47,27 @@ fn line(tally: &[usize], number: usize) {
     printing::text(b"\n");
 }
 
-pub fn print(tally: &[usize]) {
+fn lines(tally: &[usize]) {
     let mut number: usize = 0;
     while number < 13 {
         line(tally, number);
         number += 1;
     }
-    printing::text(b"words decoded ");
-    printing::size(at(tally, WORDS));
-    printing::text(b", table words compared ");
-    printing::size(at(tally, COMPARED));
-    printing::text(b"\ntables written ");
-    printing::size(at(tally, WRITES));
-    printing::text(b", words ");
-    printing::size(at(tally, WRITTEN));
-    printing::text(b"\nlists ");
-    printing::size(at(tally, LISTS));
-    printing::text(b", that differ ");
-    printing::size(at(tally, DIFFER));
+}
+
+// A number behind its name.
+fn counted(name: &[u8], tally: &[usize], which: usize) {
+    printing::text(name);
+    printing::size(at(tally, which));
+}
+
+pub fn print(tally: &[usize]) {
+    lines(tally);
+    counted(b"words decoded ", tally, WORDS);
+    counted(b", table words compared ", tally, COMPARED);
+    counted(b"\ntables written ", tally, WRITES);
+    counted(b", words ", tally, WRITTEN);
+    counted(b"\nlists ", tally, LISTS);
+    counted(b", that differ ", tally, DIFFER);
     printing::text(b"\n");
 }

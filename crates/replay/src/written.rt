@@ -2,7 +2,6 @@
 
 use crate::compare;
 use crate::lending;
-use crate::stored;
 use format::Counts;
 use format::Decoded;
 use format::Refusal;

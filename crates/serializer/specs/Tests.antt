@@ -1,11 +1,11 @@
--- Refusal 15, but for counts beyond whole records: all tests that the code makes, in its order.
+-- Refusal 15: all tests that the code makes, in its order, and what they come to (Exactly: `passes-comes`).
 use mathlib.Core.List.{List}
 use mathlib.Core.Bool.{Bool, _&&_}
 use Prim.Native.Nat.{ℕ}
 use lib.Dec.{leb}
 use lib.IntN.{ℤ}
 use Rattle.format.specs.Reading.{Table, States, Edges, Ranges, Sets, Rules, Modes, Decisions, Actions}
-use Rattle.format.specs.Writing.{eight}
+use Rattle.format.specs.Writing.{eight, given, inside, comes}
 use Rattle.rewriting.specs.Passes.{statesFine, edgesFine, argumentsFine, startsFine, namesFine, actionsFine, setsFine}
 use Rattle.wiring.specs.Chains.{chainsFine}
 use Rattle.wiring.specs.Stops.{stopsFine}
@@ -33,7 +33,12 @@ linkedIn n m k c st ed ru = joinedIn n m k c st ed ru && markedIn n m k st ed ru
 abbrev pub othersIn : ℕ → ℕ → ℕ → ℕ → ℕ → List ℤ → List ℤ → List ℤ → List ℤ → List ℤ → Bool
 othersIn r c o d a ra se mo de ac = setsFine c se r ra && namesFine o mo && namesFine d de && actionsFine a ac
 
+-- All of it, of records that lie in their tables.
 abbrev pub fine : (Table → List ℤ) → (Table → ℕ) → Bool
 fine tables counts =
     fewIn counts && linkedIn (counts States) (counts Edges) (counts Rules) (counts Sets) (tables States) (tables Edges) (tables Rules)
     && othersIn (counts Ranges) (counts Sets) (counts Modes) (counts Decisions) (counts Actions) (tables Ranges) (tables Sets) (tables Modes) (tables Decisions) (tables Actions)
+
+-- Whether 15 is not given: no count exceeds its table's whole records, and some words decode to the records.
+abbrev pub writableIn : (Table → List ℤ) → (Table → ℕ) → ℤ → Bool
+writableIn tables counts token = inside tables counts && comes (given tables counts) token

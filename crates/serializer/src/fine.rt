@@ -2,12 +2,9 @@
 
 ghost use mathlib.Core.Path.{_≡_};
 ghost use mathlib.Core.List.{[]};
-ghost use mathlib.Core.Bool.{_&&_};
-ghost use Prim.Native.Nat.{_*_, _≤_};
 ghost use lib.IntN.{ℤ};
-ghost use lib.ListN.{length};
 ghost use Rattle.format.specs.Tables.{nine};
-ghost use Rattle.format.specs.Writing.{given, inside, comes};
+ghost use Rattle.format.specs.Writing.{inside};
 ghost use Rattle.rewriting.specs.Held.{Lie};
 ghost use Rattle.serializer.specs.Tests as spec;
 use crate::counts;
@@ -134,10 +131,9 @@ pub fn writable(
     actions: &[i32],
     actions_count: usize,
 ) -> bool
-    ensures { λ r. ⌜ ((token : ℤ) → r ≡ (inside (nine (now (states .entry)) (now (edges .entry)) (now (ranges .entry)) (now (sets .entry)) (now (rules .entry)) (now (modes .entry)) (now (decisions .entry)) (now (actions .entry)) [])
-        (nine «states_count» «edges_count» «ranges_count» «sets_count» «rules_count» «modes_count» «decisions_count» «actions_count» 0)
-        && comes (given (nine (now (states .entry)) (now (edges .entry)) (now (ranges .entry)) (now (sets .entry)) (now (rules .entry)) (now (modes .entry)) (now (decisions .entry)) (now (actions .entry)) [])
-        (nine «states_count» «edges_count» «ranges_count» «sets_count» «rules_count» «modes_count» «decisions_count» «actions_count» 0)) token)) ⌝ }
+    ensures { λ r. ⌜ ((token : ℤ) → r ≡ spec.writableIn
+        (nine (now (states .entry)) (now (edges .entry)) (now (ranges .entry)) (now (sets .entry)) (now (rules .entry)) (now (modes .entry)) (now (decisions .entry)) (now (actions .entry)) [])
+        (nine «states_count» «edges_count» «ranges_count» «sets_count» «rules_count» «modes_count» «decisions_count» «actions_count» 0) token) ⌝ }
 {
     let inside = fit(
         states,

@@ -7,8 +7,6 @@ ghost use Prim.Native.Nat.{_+_, _*_, _≤_};
 ghost use lib.Dec.{eqb, leb, ltb};
 ghost use lib.ListN.{length};
 ghost use Rattle.format.specs.Sections.{none, same};
-ghost use Rattle.format.specs.Places.{edSource};
-ghost use Rattle.tables.specs.Words.{numberAt};
 ghost use Rattle.rewriting.specs.Climbs as spec;
 ghost use Rattle.wiring.specs.Chains.{sourceIn, nextIn, chainFine, chainsFine};
 use format::edge;

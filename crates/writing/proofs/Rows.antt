@@ -3,7 +3,7 @@ use mathlib.Core.Path.{_≡_, refl, ap, _∙_}
 use mathlib.Core.List.{List, [], _∷_, _++_, map, append-nil}
 use mathlib.Core.Bool.{Bool}
 use Prim.Native.Nat.{ℕ, suc, _+_, _-_, _*_, _≤_, _<_}
-use native.Mathlib.Nat.{mul-suc}
+use native.Mathlib.Nat.{mul-suc, mul-le-mul-left}
 use native.Mathlib.Numerals.{add-one}
 use native.Mathlib.Omega.{arith}
 use lib.IntN.{ℤ, pos}
@@ -30,6 +30,10 @@ pub record Turned (F : List (List ℤ) → List ℤ) (most w n : ℕ) (t : List 
 pub turned-none : {F : List (List ℤ) → List ℤ} {most w n at : ℕ} {t old : List ℤ} → F [] ≡ [] → Turned F most w n t at old old at 0
 turned-none e = record { lays = rw e (lays-more (omega arith) lays-none); within = omega arith }
 
+-- the i-th of n records lies within them
+pub row-inside : (w i n : ℕ) → i < n → w * i + w ≤ w * n
+row-inside w i n h = omega (arith, mul-suc w i, mul-le-mul-left w h)
+
 module _ {F : List (List ℤ) → List ℤ} {most w n at i a : ℕ} {t old mid : List ℤ} (x : Turned F most w n t at old mid a i) where
   -- the next record is whole
   pub turned-row : {row : List ℤ} → w * i + w ≤ length t → row ≡ rowAt w t i → length row ≡ w
@@ -52,15 +56,15 @@ pub turned-more : {f : List ℤ → List ℤ} {most w n at i a b : ℕ} {t row o
     → row ≡ rowAt w t i → Lays most a (f row) mid new b → Turned (each f) most w n t at old new b (i + 1)
 turned-more {f} {w = w} {i = i} {t = t} {row} x h e y = turned-on x h e (each-one f (rowsOf w i t) row) y
 
--- all of them, behind other words; "counted": behind their number
-module _ {A : Type 0} (f : A → List ℤ) (g : List ℤ → A) {j k most w n i at a b : ℕ} {t old mid new : List ℤ} where
-  pub turned-each : {ps : List ℤ} → Lays j at ps old mid a → Turned (each (λ x. f (g x))) most w n t a mid new b i → n ≤ i → j + most * n ≤ k
-      → Lays k at (ps ++ each f (map g (rowsOf w n t))) old new b
-  turned-each y x h m = rw (each-map f g) (turned-all x y h m)
+-- all of them, behind other words
+pub turned-each : {A : Type 0} (f : A → List ℤ) (g : List ℤ → A) {j k most w n i at a b : ℕ} {t old mid new ps : List ℤ} → Lays j at ps old mid a
+    → Turned (each (λ x. f (g x))) most w n t a mid new b i → n ≤ i → j + most * n ≤ k → Lays k at (ps ++ each f (map g (rowsOf w n t))) old new b
+turned-each f g y x h m = rw (each-map f g) (turned-all x y h m)
 
-  pub turned-counted : Lays j at (pos n ∷ []) old mid a → Turned (each (λ x. f (g x))) most w n t a mid new b i → n ≤ i → j + most * n ≤ k
-      → Lays k at (counted f (map g (rowsOf w n t))) old new b
-  turned-counted y x h m = rw (back-long g w n t) (turned-each y x h m)
+-- "counted": behind their number
+pub turned-counted : {f : List ℤ → List ℤ} {j k most w n i at a b : ℕ} {t old mid new : List ℤ} → Lays j at (pos n ∷ []) old mid a
+    → Turned (each f) most w n t a mid new b i → n ≤ i → j + most * n ≤ k → Lays k at (counted f (rowsOf w n t)) old new b
+turned-counted {w = w} {n} {t = t} y x h m = rw (rows-long w n t) (turned-all x y h m)
 
 -- ---- the numbers of those that pass a test, whose count goes before them when they are laid
 

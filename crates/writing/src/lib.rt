@@ -17,6 +17,15 @@ ghost use Rattle.writing.specs.Parts.{Few, inSets};
 ghost use Rattle.writing.specs.Whole.{readOff, answer};
 use format::Written;
 
+// The sections whose records are written one by one; a name is a mode's or a decision's. "derived edges not written": the first are all the others.
+pub enum Section {
+    States,
+    Rules,
+    Names,
+    Edges,
+    Actions,
+}
+
 // Version 4, a lexer, and the max token type.
 fn write_header(token: i32, out: &mut [i32]) -> usize
     ensures { λ r. ⌜ Lays 3 0 (pos 4 ∷ pos 0 ∷ token ∷ []) (now (out .entry)) (now (out .exit)) r ⌝ }
@@ -55,15 +64,15 @@ pub fn write_words(
         (now (out .entry)) (now (out .exit)) r ⌝ }
 {
     let states_at = write_header(token, out);
-    let ones_at = counted::write_states(states, n, out, states_at);
+    let ones_at = counted::write_records(Section::States, states, n, out, states_at);
     let twos_at = counted::write_flagged(states, n, 1, out, ones_at);
     let rules_at = counted::write_flagged(states, n, 2, out, twos_at);
-    let modes_at = counted::write_rules(rules, ru, out, rules_at);
-    let sets_at = counted::write_names(modes, mo, out, modes_at);
+    let modes_at = counted::write_records(Section::Rules, rules, ru, out, rules_at);
+    let sets_at = counted::write_records(Section::Names, modes, mo, out, modes_at);
     let edges_at = set_words::write_sets(sets, se, ranges, ra, out, sets_at);
-    let decisions_at = counted::write_edges(edges, o, out, edges_at);
-    let actions_at = counted::write_names(decisions, de, out, decisions_at);
-    counted::write_actions(actions, ac, out, actions_at)
+    let decisions_at = counted::write_records(Section::Edges, edges, o, out, edges_at);
+    let actions_at = counted::write_records(Section::Names, decisions, de, out, decisions_at);
+    counted::write_records(Section::Actions, actions, ac, out, actions_at)
 }
 
 // The answer once the n words are put: "16 exactly when the output is too short", which is then all zero; else the output behind them is.

@@ -1,12 +1,13 @@
 -- `write` meets its contract: refusal 15 by the tests, then the words, then refusal 16. Assumes nothing.
 use mathlib.Core.Path.{sym, ap, _∙_}
-use mathlib.Core.List.{[]}
+use mathlib.Core.List.{List, []}
 use Prim.Native.Nat.{ℕ}
 use native.Mathlib.Omega.{arith}
+use lib.IntN.{ℤ}
 use lib.ListN.{length}
 use denote.Ref.{now}
 use borrow.Author.Needs.{needs}
-use Rattle.format.specs.Reading.{States, Edges, Ranges, Sets, Rules, Modes, Decisions, Actions}
+use Rattle.format.specs.Reading.{Table, States, Edges, Ranges, Sets, Rules, Modes, Decisions, Actions}
 use Rattle.format.specs.Tables.{nine}
 use Rattle.format.specs.Writing.{rowsOf, wordsOf}
 use Rattle.words.proofs.Signs.{back32}
@@ -18,16 +19,25 @@ use Rattle.serializer.specs.Exactly.{Passed, has-passed, write-refused, 
 use Rattle.serializer.proofs.write.Statement.{statement}
 use Rattle.serializer.proofs.write.Tie as tie
 
+-- the tables, and the counts
+abbrev lent : tie.Start → Table → List ℤ
+lent s = let a = s .args in nine (now (a .states)) (now (a .edges)) (now (a .ranges)) (now (a .sets)) (now (a .rules)) (now (a .modes)) (now (a .decisions)) (now (a .actions)) []
+
+abbrev counts : tie.Start → Table → ℕ
+counts s = let a = s .args in nine (a .states-count) (a .edges-count) (a .ranges-count) (a .sets-count) (a .rules-count) (a .modes-count) (a .decisions-count) (a .actions-count) 0
+
 returns : tie.Need-returns
 returns c =
-    let a = c .before .before .before .before .before .before .args in
-    writes-by (nine (now (a .states)) (now (a .edges)) (now (a .ranges)) (now (a .sets)) (now (a .rules)) (now (a .modes)) (now (a .decisions)) (now (a .actions)) []) (nine (a .states-count) (a .edges-count) (a .ranges-count) (a .sets-count) (a .rules-count) (a .modes-count) (a .decisions-count) (a .actions-count) 0) (a .max-token-type) (length (now (a .out))) _ (write-refused (nine (now (a .states)) (now (a .edges)) (now (a .ranges)) (now (a .sets)) (now (a .rules)) (now (a .modes)) (now (a .decisions)) (now (a .actions)) []) (nine (a .states-count) (a .edges-count) (a .ranges-count) (a .sets-count) (a .rules-count) (a .modes-count) (a .decisions-count) (a .actions-count) 0) (a .max-token-type) (length (now (a .out))) (failed (c .before .before .before .before .before .writable .ensures (a .max-token-type)) (c .before .before .before .before .if1 .taken)) (c .refused .ensures) (c .before .before .clear .ensures))
+    let s = c .before .before .before .before .before .before in
+    let a = s .args in
+    writes-by (lent s) (counts s) (a .max-token-type) (length (now (a .out))) _ (write-refused (lent s) (counts s) (a .max-token-type) (length (now (a .out))) (failed (c .before .before .before .before .before .writable .ensures (a .max-token-type)) (c .before .before .before .before .if1 .taken)) (c .refused .ensures) (c .before .before .clear .ensures))
 
 -- what the tests have shown
-shown : (c : tie.Else1) → let a = c .before .before .args in Passed (nine (now (a .states)) (now (a .edges)) (now (a .ranges)) (now (a .sets)) (now (a .rules)) (now (a .modes)) (now (a .decisions)) (now (a .actions)) []) (nine (a .states-count) (a .edges-count) (a .ranges-count) (a .sets-count) (a .rules-count) (a .modes-count) (a .decisions-count) (a .actions-count) 0)
+shown : (c : tie.Else1) → let s = c .before .before in Passed (lent s) (counts s)
 shown c =
-    let a = c .before .before .args in
-    has-passed (nine (now (a .states)) (now (a .edges)) (now (a .ranges)) (now (a .sets)) (now (a .rules)) (now (a .modes)) (now (a .decisions)) (now (a .actions)) []) (nine (a .states-count) (a .edges-count) (a .ranges-count) (a .sets-count) (a .rules-count) (a .modes-count) (a .decisions-count) (a .actions-count) 0) (a .max-token-type) (passed (c .before .writable .ensures (a .max-token-type)) (c .if1 .left))
+    let s = c .before .before in
+    let a = s .args in
+    has-passed (lent s) (counts s) (a .max-token-type) (passed (c .before .writable .ensures (a .max-token-type)) (c .if1 .left))
 
 own-count-requires : tie.Need-own-count-requires
 own-count-requires c κs = let p = shown c in (p .lie .edges, p .few Edges)
@@ -57,9 +67,9 @@ returns-2 c =
     let d = c .before .before .before .before .before .before .before in
     let own = c .before .before .before .before .before .before .own-count in
     let first = shown d .own ∙ ap (λ (o : ℕ). rowsOf 8 o (now (a .edges))) (sym (own .ensures)) in
-    writes-by (nine (now (a .states)) (now (a .edges)) (now (a .ranges)) (now (a .sets)) (now (a .rules)) (now (a .modes)) (now (a .decisions)) (now (a .actions)) []) (nine (a .states-count) (a .edges-count) (a .ranges-count) (a .sets-count) (a .rules-count) (a .modes-count) (a .decisions-count) (a .actions-count) 0) (a .max-token-type) (length (now (a .out))) _
+    writes-by (lent s) (counts s) (a .max-token-type) (length (now (a .out))) _
     (c .before .finish .ensures _ _ _ (rw (back32 (a .max-token-type) (s .fits .max-token-type .sfits)) at (c .before .before .before .before .write-words .ensures))
-    ∙ write-answers (nine (now (a .states)) (now (a .edges)) (now (a .ranges)) (now (a .sets)) (now (a .rules)) (now (a .modes)) (now (a .decisions)) (now (a .actions)) []) (nine (a .states-count) (a .edges-count) (a .ranges-count) (a .sets-count) (a .rules-count) (a .modes-count) (a .decisions-count) (a .actions-count) 0) (a .max-token-type) (length (now (a .out))) (passed (d .before .writable .ensures (a .max-token-type)) (d .if1 .left))
+    ∙ write-answers (lent s) (counts s) (a .max-token-type) (length (now (a .out))) (passed (d .before .writable .ensures (a .max-token-type)) (d .if1 .left))
     (ap wordsOf (off-recovered (now (a .states)) (now (a .edges)) (now (a .ranges)) (now (a .sets)) (now (a .rules)) (now (a .modes)) (now (a .decisions)) (now (a .actions)) (a .states-count) (a .edges-count) (own .result) (a .ranges-count) (a .sets-count) (a .rules-count) (a .modes-count) (a .decisions-count) (a .actions-count) (a .max-token-type) first)))
 
 pub write-spec : {M : Type 1} → statement M

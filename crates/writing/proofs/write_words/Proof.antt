@@ -7,10 +7,11 @@ use denote.Ref.{now}
 use borrow.Author.Needs.{needs}
 use Rattle.format.specs.Sections.{Read}
 use Rattle.format.specs.Tables.{stateWord, actionWords}
-use Rattle.format.specs.Writing.{counted, stateForm, ruleForm, setForm, edgeForm, wordsOf, rowsOf}
+use Rattle.format.specs.Writing.{counted, stateForm, ruleForm, setForm, edgeForm, stateBack, ruleBack, stateNamed, edgeBack, actionBack, wordsOf, rowsOf}
 use Rattle.words.proofs.Signs.{back32}
 use Rattle.writing.specs.Laid.{Lays, lays-more, lays-then}
 use Rattle.writing.proofs.Flags.{with-one, with-two}
+use Rattle.writing.specs.Sections.{counted-back}
 use Rattle.writing.specs.Whole.{readOff}
 use Rattle.writing.proofs.write_words.Statement.{statement}
 use Rattle.writing.proofs.write_words.Tie as tie
@@ -31,14 +32,14 @@ sections r header states ones twos rules modes sets edges decisions actions =
 write-sets-requires : tie.Need-write-sets-requires
 write-sets-requires c κs = omega (arith, c .before .before .before .before .before .before .before .before)
 
-write-edges-requires : tie.Need-write-edges-requires
-write-edges-requires c κs = omega (arith, c .before .before .before .before .before .before .before .before .before .before .before)
+write-records-requires-4 : tie.Need-write-records-requires-4
+write-records-requires-4 c κs = omega (arith, c .before .before .before .before .before .before .before .before .before .before .before)
 
-write-names-requires-2 : tie.Need-write-names-requires-2
-write-names-requires-2 c κs = let d = c .before .before .before .before .before .before .before .before in omega (arith, d, d .before .before .before .before .before .before)
+write-records-requires-5 : tie.Need-write-records-requires-5
+write-records-requires-5 c κs = let d = c .before .before .before .before .before .before .before .before in omega (arith, d, d .before .before .before .before .before .before)
 
-write-actions-requires : tie.Need-write-actions-requires
-write-actions-requires c κs = let d = c .before .before .before .before .before .before .before .before in omega (arith, d, d .before .before .before .before .before .before .before .before .before)
+write-records-requires-6 : tie.Need-write-records-requires-6
+write-records-requires-6 c κs = let d = c .before .before .before .before .before .before .before .before in omega (arith, d, d .before .before .before .before .before .before .before .before .before)
 
 same-length : tie.Need-same-length
 same-length c = let d = c .before .before .before .before .before .before .before .before .before .before in omega (arith, d, d .before .before .before .before .before .before .before .before .before)
@@ -58,10 +59,10 @@ returns c =
     let start = header .before .before .before in
     let rows = rowsOf 8 (start .args .n) (now (start .args .states)) in
     lays-more (omega arith)
-    (sections _ (rw (back32 (start .args .token) (start .fits .token .sfits)) at (header .before .write-header .ensures)) (states .before .write-states .ensures)
+    (sections _ (rw (back32 (start .args .token) (start .fits .token .sfits)) at (header .before .write-header .ensures)) (rw (counted-back stateForm stateBack) at (states .before .write-records .ensures))
     (rw (with-one rows) at (ones .before .write-flagged .ensures)) (rw (with-two rows) at (twos .before .write-flagged2 .ensures))
-    (rules .before .write-rules .ensures) (modes .before .write-names .ensures) (sets .before .write-sets .ensures)
-    (edges .before .write-edges .ensures) (decisions .before .write-names2 .ensures) (c .before .write-actions .ensures))
+    (rw (counted-back ruleForm ruleBack) at (rules .before .write-records2 .ensures)) (rw (counted-back stateWord stateNamed) at (modes .before .write-records3 .ensures)) (sets .before .write-sets .ensures)
+    (rw (counted-back edgeForm edgeBack) at (edges .before .write-records4 .ensures)) (rw (counted-back stateWord stateNamed) at (decisions .before .write-records5 .ensures)) (rw (counted-back actionWords actionBack) at (c .before .write-records6 .ensures)))
 
 pub write-words-spec : {M : Type 1} → statement M
 write-words-spec =
@@ -74,8 +75,8 @@ write-words-spec =
     (λ c κs. search needs)
     (λ c κs. search needs)
     write-sets-requires
-    write-edges-requires
-    write-names-requires-2
-    write-actions-requires
+    write-records-requires-4
+    write-records-requires-5
+    write-records-requires-6
     same-length
     returns)
