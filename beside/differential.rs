@@ -23,8 +23,9 @@ mod walk;
 mod writer;
 mod written;
 mod wrong;
+mod wrong_records;
 
-use lists::{dialects, full, hand_built, over_sets, whole};
+use lists::{dialects, full, hand_built, over_sets, three, whole};
 use rooms::{Room, USUAL};
 use run::{Care, PLAIN, Run};
 use seeded::{SHAPES, damaged, large_set, loose, network, some_words};
@@ -89,7 +90,7 @@ fn by_hand(run: &mut Run) {
             run.list(family, &words, ALL);
         }
     }
-    for words in [full(), whole()] {
+    for words in [full(), whole(), three()] {
         for length in 0..words.len() {
             run.list("cut at every length", &words[..length], ALL);
         }

@@ -50,13 +50,14 @@ pub type Tables = [Vec<i32>; 9];
 /// An acceptance's counts: words read, max token type, states, edges, derived edges, ranges, sets, rules, modes, decisions, actions.
 pub type Counts = [i64; 11];
 
-/// A decode's refusal, as document 01 gives it.
+/// A decode's refusal, as document 01 gives it, and the number of the refused word's record (request R-2).
 #[derive(Clone, Copy, Debug, PartialEq, Eq, PartialOrd, Ord)]
 pub struct Refusal {
     pub number: u32,
     pub field: u32,
     pub place: usize,
     pub value: i64,
+    pub record: usize,
 }
 
 /// A question's refusal: number and value.
@@ -85,13 +86,13 @@ pub fn decode_into(words: &[i32], parts: [&mut [i32]; 9], answer: &mut [i64]) ->
 pub fn decode(words: &[i32], tables: &mut Tables) -> Result<Counts, Refusal> {
     let mut answer = [-1i64; 16];
     let number = decode_into(words, tables.each_mut().map(Vec::as_mut_slice), &mut answer);
-    let values = if number == 0 { 11 } else { 4 };
+    let values = if number == 0 { 11 } else { 5 };
     assert!(answer[values..].iter().all(|&v| v == 0), "the answer has zeros behind its values");
     if number == 0 {
         return Ok(std::array::from_fn(|i| answer[i]));
     }
     assert_eq!(answer[0], i64::from(number), "the number is given twice, and alike");
-    Err(Refusal { number, field: answer[1] as u32, place: answer[2] as usize, value: answer[3] })
+    Err(Refusal { number, field: answer[1] as u32, place: answer[2] as usize, value: answer[3], record: answer[4] as usize })
 }
 
 /// What a question's call answered: its so many values, or the refusal.

@@ -102,7 +102,7 @@ pub fn hold_apart(told: &Told, lengths: &[usize; 9], rng: &mut Rng) -> Result<()
 fn values(answer: &Answer) -> Vec<i64> {
     match answer {
         Ok(counts) => counts.to_vec(),
-        Err(r) => vec![i64::from(r.number), i64::from(r.field), r.place as i64, r.value],
+        Err(r) => vec![i64::from(r.number), i64::from(r.field), r.place as i64, r.value, r.record as i64],
     }
 }
 
@@ -117,6 +117,6 @@ pub fn handed(mut values: Vec<i64>, length: usize) -> Vec<i64> {
 fn spelled(answer: &Answer) -> String {
     match answer {
         Ok(counts) => format!("acceptance {counts:?}"),
-        Err(r) => format!("refusal {}, field {}, place {}, value {}", r.number, r.field, r.place, r.value),
+        Err(r) => format!("refusal {}, field {}, place {}, value {}, record {}", r.number, r.field, r.place, r.value, r.record),
     }
 }

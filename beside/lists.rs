@@ -115,6 +115,17 @@ pub fn whole() -> Vec<i32> {
     net.rules(&[[1, 1]]).sets(&[(0, vec![(48, 52), (53, 57)])]).edges(&[eps(0, 1), edge(1, 3, 7, 0), eps(3, 2)]).words()
 }
 
+/// A network with three records and more of every kind, to be cut and damaged at every place, too: for the records that refusals name.
+pub fn three() -> Vec<i32> {
+    let net = Net {
+        token: 2, non_greedy: vec![3, 1, 4], modes: vec![0, 1, 0], decisions: vec![0, 3, 4], actions: vec![[0, 1, 0], [6, 0, 0], [1, 2, 3]],
+        ..Net::of(&[(6, -1), (2, 0), (7, 0), (3, 0), (12, 0), (0, 0), (2, 1), (7, 1)])
+    };
+    let sets = [(1, vec![(48, 52), (53, 57)]), (0, vec![(65, 70), (80, 90), (97, 99)]), (0, vec![(1, 2), (5, 6), (9, 10)])];
+    let edges = [eps(0, 1), edge(1, 3, 7, 0), call(3, 6, 2), [4, 2, 4, 0, 0, 0], edge(6, 7, 8, 2), edge(1, 2, 6, 1)];
+    net.recursive(&[1, 6, 1]).rules(&[[1, 1], [6, 2], [3, 5]]).sets(&sets).edges(&edges).words()
+}
+
 /// Sets, each used by an edge.
 pub fn over_sets(sets: &[Set]) -> Vec<i32> {
     let edges: Vec<[i32; 6]> = (0..sets.len() as i32).map(|number| edge(0, 0, 7 + number % 2, number)).collect();
@@ -436,7 +447,7 @@ fn tail_calls() -> Vec<Vec<i32>> {
 }
 
 /// One word changed at every place.
-fn every_word_changed(base: &[i32]) -> Vec<Vec<i32>> {
+pub fn every_word_changed(base: &[i32]) -> Vec<Vec<i32>> {
     let changed = |at: usize, word: i32| {
         let mut copy = base.to_vec();
         copy[at] = word;
@@ -451,7 +462,7 @@ pub fn hand_built() -> Vec<Family> {
         ("document 01's cases", document()), ("held against ANTLR", demos()), ("headers", headers()), ("states", states()),
         ("flags", flags()), ("rules and modes", rules_and_modes()), ("sets", sets()), ("edges", edges()), ("actions", actions()),
         ("return edges", returns()), ("precedence", precedence()), ("tail calls", tail_calls()),
-        ("every word changed", [every_word_changed(&full()), every_word_changed(&whole())].concat()),
+        ("every word changed", [full(), whole(), three()].map(|words| every_word_changed(&words)).concat()),
     ]
 }
 

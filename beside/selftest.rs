@@ -9,17 +9,18 @@ use crate::seeded::Rng;
 use crate::shrink::shrink;
 use crate::told::{Answer, Told};
 use crate::wrong;
+use crate::wrong_records;
 
 /// A decode that agrees, to be damaged.
-struct Sound {
+pub struct Sound {
     told: Told,
     expected: Answer,
-    came: Answer,
-    tables: Tables,
+    pub came: Answer,
+    pub tables: Tables,
 }
 
 impl Sound {
-    fn new(words: &[i32], room: Room, rng: &mut Rng) -> Result<Sound, String> {
+    pub fn new(words: &[i32], room: Room, rng: &mut Rng) -> Result<Sound, String> {
         let told = Told::of(words);
         let lengths = room.lengths(&told, USUAL, rng).ok_or("the room does not suit the list")?;
         let mut tables = Tables::default();
@@ -32,11 +33,12 @@ impl Sound {
         }
     }
 
+    pub fn notices(&self, came: &Answer, tables: &Tables) -> bool {
+        difference(&self.told, &self.expected, came, tables).is_some()
+    }
+
     fn must_differ(&self, what: &str, came: &Answer, tables: &Tables) -> Result<u64, String> {
-        match difference(&self.told, &self.expected, came, tables) {
-            Some(_) => Ok(1),
-            None => Err(format!("a damage was not caught: {what}")),
-        }
+        if self.notices(came, tables) { Ok(1) } else { Err(format!("a damage was not caught: {what}")) }
     }
 
     /// Each value of the answer is changed, and the answer is turned into the other kind.
@@ -49,12 +51,14 @@ impl Sound {
                     other[at] += 1;
                     caught += self.must_differ("a count", &Ok(other), &self.tables)?;
                 }
-                caught += self.must_differ("a refusal", &Err(Refusal { number: 1, field: 1, place: 0, value: 0 }), &self.tables)?;
+                let refusal = Refusal { number: 1, field: 1, place: 0, value: 0, record: 0 };
+                caught += self.must_differ("a refusal", &Err(refusal), &self.tables)?;
             }
             Err(refusal) => {
                 let others = [
                     Refusal { number: refusal.number + 1, ..refusal }, Refusal { field: refusal.field + 1, ..refusal },
                     Refusal { place: refusal.place + 1, ..refusal }, Refusal { value: refusal.value + 1, ..refusal },
+                    Refusal { record: refusal.record + 1, ..refusal },
                 ];
                 for other in others {
                     caught += self.must_differ("a value of a refusal", &Err(other), &self.tables)?;
@@ -146,5 +150,5 @@ pub fn self_test(seed: u64) -> Result<u64, String> {
     if small != [7] {
         return Err(format!("a list was not made small: {small:?}"));
     }
-    Ok(caught + wrong::noticed(&mut rng)?)
+    Ok(caught + wrong::noticed(&mut rng)? + wrong_records::noticed(&mut rng)?)
 }

@@ -90,6 +90,40 @@ impl Judged {
     }
 }
 
+/// The refusals that can name a record above 0: number, and fields.
+const NAMING: [(u32, &[u32]); 9] = [
+    (1, &[5, 6, 7, 8, 10, 12, 14, 15, 17, 19, 20, 21, 22, 24, 25, 26, 27, 28, 29, 31, 33, 34, 35]),
+    (2, &[7, 8, 10, 12, 14, 17, 19, 24, 25, 27, 28, 31]),
+    (6, &[5]), (7, &[10, 12]), (8, &[26]), (9, &[27]), (10, &[24]), (11, &[33]), (12, &[20]),
+];
+
+/// How often a decode was refused with a record above 0, by number and field.
+#[derive(Default)]
+struct Named(BTreeMap<(u32, u32), u64>);
+
+impl Named {
+    fn add(&mut self, refusal: Refusal) {
+        if refusal.record > 0 {
+            *self.0.entry((refusal.number, refusal.field)).or_default() += 1;
+        }
+    }
+
+    /// Where there can be one and none was met, and where one was met and there can be none.
+    fn missing(&self) -> Vec<String> {
+        let pairs = NAMING.into_iter().flat_map(|(number, fields)| fields.iter().map(move |&field| (number, field)));
+        let (can, met): (BTreeSet<(u32, u32)>, BTreeSet<(u32, u32)>) = (pairs.collect(), self.0.keys().copied().collect());
+        let said = |what: &'static str| move |(number, field): &(u32, u32)| format!("{what}: refusal {number}, field {field}");
+        let not_met = can.difference(&met).map(said("no record above 0 was met"));
+        not_met.chain(met.difference(&can).map(said("a record above 0 was met where there is none"))).collect()
+    }
+
+    fn print(&self) {
+        let mut fields: BTreeMap<u32, u64> = BTreeMap::new();
+        self.0.iter().for_each(|(&(_, field), count)| *fields.entry(field).or_default() += count);
+        println!("  with a record above 0: {} pairs of number and field, by field: {}", self.0.len(), listed(fields.into_iter()));
+    }
+}
+
 #[derive(Default)]
 pub struct Summary {
     pub lists: u64,
@@ -103,6 +137,7 @@ pub struct Summary {
     short: [[u64; 9]; 2],
     answers: [u64; 15],
     no_room: BTreeMap<(u32, bool), u64>,
+    named: Named,
     /// Accepted lists with return edges, a tail call, a precedence decision, a set.
     with: [u64; 4],
     pub apart: u64,
@@ -195,6 +230,7 @@ impl Summary {
             return;
         };
         self.answers[refusal.number as usize] += 1;
+        self.named.add(*refusal);
         if refusal.number == 12 {
             self.twelve(told, *refusal);
         }
@@ -249,6 +285,7 @@ impl Summary {
         }
         let name = |field: u32, derived: bool| if derived { format!("{field} for return edges") } else { field.to_string() };
         println!("  12 by field: {}", listed(self.no_room.iter().map(|(&(field, derived), &count)| (name(field, derived), count))));
+        self.named.print();
         println!("  into slices of one block, with an answer of 0 to 20 elements: {}", self.apart);
         let [accepted, refused] = self.behind;
         println!("demand 3: accepted lists with words behind {accepted}, cut short {}; refused lists with words behind {refused}", self.cut);
@@ -277,7 +314,8 @@ impl Summary {
             ("refused lists with words behind", self.behind[1]), ("lists cut short", self.cut), ("matches", asked.matches),
             ("n-th edges", asked.edges), ("set's parts", asked.parts), ("lookups", asked.lookups), ("questions by rule", self.ruled),
         ];
-        counts.into_iter().filter(|(_, count)| *count == 0).map(|(name, _)| format!("none were compared: {name}")).collect()
+        let none = counts.into_iter().filter(|(_, count)| *count == 0).map(|(name, _)| format!("none were compared: {name}"));
+        none.chain(self.named.missing()).collect()
     }
 
     fn print_written(&self) {

@@ -1,6 +1,6 @@
-//! What the Rust says of a word list, put as document 01 puts it: a refusal's number, field, place and value, or the counts and the
-//! records of every table. All of it is the Rust's own, but for the edges' numbers and the room that a list takes, which the words
-//! give; and `short_of_room`, since the Rust knows no rooms.
+//! What the Rust says of a word list, put as document 01 puts it: a refusal's number, field, place, value and record, or the counts and the
+//! records of every table. All of it is the Rust's own, but for a refusal's record, the edges' numbers and the room that a list takes,
+//! which the words give; and `short_of_room`, since the Rust knows no rooms.
 
 use crate::gatehazel::{Counts, EDGES, RANGES, Refusal, SETS, STATES, TABLES, Tables};
 use crate::walk::Walk;
@@ -15,9 +15,6 @@ pub const SCRATCH: usize = 8;
 
 /// The most records that document 01 counts as room.
 pub const MOST_ROOM: usize = 65_536;
-
-/// The field of a table's count; ranges are tested at a set's flag instead, and scratch with the states.
-pub const COUNT_FIELDS: [(usize, u32); 7] = [(STATES, 4), (RULES, 13), (MODES, 16), (SETS, 18), (EDGES, 23), (DECISIONS, 30), (ACTIONS, 32)];
 
 /// An answer of a decode.
 pub type Answer = Result<Counts, Refusal>;
@@ -76,7 +73,7 @@ impl Told {
         let all_edges = all_edges(&walk, &decoded);
         let (answer, network) = match decoded {
             Ok(network) => (Ok(Counts::default()), Some(network)),
-            Err(text) => (Err(refusal(&text, rests_on, words)), None),
+            Err(text) => (Err(refusal(&text, &walk)), None),
         };
         let mut told = Told {
             words: words.to_vec(), answer, rests_on, network, kept, records: Tables::default(), chains: Vec::new(), room: [0; 9],
@@ -93,44 +90,43 @@ impl Told {
     /// For a count that the Rust cannot be asked about: it is asked about the words before, and if they are good the count is 12 in any room.
     fn not_asked(words: &[i32]) -> Told {
         let walk = Walk::of(words);
-        let large = |&(table, _): &(usize, u32)| {
-            [RULES, SETS, ACTIONS].contains(&table) && walk.counts[table].is_some_and(|(_, n)| n > oracle::GUARD as usize)
-        };
-        let (table, field) = COUNT_FIELDS.into_iter().find(large).expect("a count above the guard");
-        let (place, count) = walk.counts[table].expect("it was found");
+        let large = |table: usize| walk.counts[table].filter(|&(_, count)| count > oracle::GUARD as usize).map(|found| (table, found));
+        let (table, (place, count)) = [RULES, SETS, ACTIONS].into_iter().find_map(large).expect("a count above the guard");
         let mut told = Told::of(&words[..place]);
         told.words = words.to_vec();
         told.asked = false;
         if told.answer.is_err_and(|refusal| refusal.number == 1) {
-            told.tests.push(Test { read: place + 1, table, refusal: Refusal { number: 12, field, place, value: count as i64 } });
+            told.test(&walk, table, place, count);
         }
         told
     }
 
     /// The room that the list takes and the tests of it, in reading order.
     fn set_room(&mut self, walk: &Walk, all_edges: Option<usize>) {
-        for (table, field) in COUNT_FIELDS {
-            if let Some((place, count)) = walk.counts[table] {
+        for (table, found) in walk.counts.iter().enumerate() {
+            if let Some((place, count)) = *found {
                 self.room[table] = count;
-                self.test(place + 1, table, field, place, count);
+                self.test(walk, table, place, count);
             }
         }
         let mut before = 0;
         for (number, &(place, size)) in walk.flags.iter().enumerate() {
             self.room[RANGES] = self.room[RANGES].max(before + size);
-            self.test(place + 1, RANGES, 20, place, before + size);
+            self.test(walk, RANGES, place, before + size);
             before += self.kept.get(number).map_or(0, |set| set.ranges().len());
         }
         if let (Some(all), Some(end)) = (all_edges, walk.edges_end) {
             self.room[EDGES] = all;
-            self.test(end, EDGES, 23, end, all);
+            let refusal = Refusal { number: 12, field: 23, place: end, value: all as i64, record: 0 };
+            self.tests.push(Test { read: end, table: EDGES, refusal });
         }
         self.room[SCRATCH] = self.room[STATES];
         self.tests.sort_by_key(|test| test.read);
     }
 
-    fn test(&mut self, read: usize, table: usize, field: u32, place: usize, need: usize) {
-        self.tests.push(Test { read, table, refusal: Refusal { number: 12, field, place, value: need as i64 } });
+    /// A test that is made as soon as the word at a place is read.
+    fn test(&mut self, walk: &Walk, table: usize, place: usize, need: usize) {
+        self.tests.push(Test { read: place + 1, table, refusal: walk.refusal(12, place, need as i64) });
     }
 
     /// The tables and the counts of an accepted list.
@@ -302,15 +298,20 @@ fn field(label: &str) -> u32 {
     1 + FIELDS.iter().position(|&name| name == label).unwrap_or_else(|| panic!("no field is known for the label: {label}")) as u32
 }
 
-/// Number, field, place and value of an error text that rests on so many words.
-fn refusal(text: &str, rests_on: usize, words: &[i32]) -> Refusal {
-    if let Some(label) = text.strip_prefix("serialized ATN ended while reading ") {
-        return Refusal { number: 1, field: field(label), place: words.len(), value: 0 };
-    }
-    let (number, field, before, value) = said(text).unwrap_or_else(|| panic!("no refusal number is known for the error text: {text}"));
-    let place = rests_on - 1 - before;
-    assert_eq!(i64::from(words[place]), value, "the word at that place is another than the one that was refused: {text}");
-    Refusal { number, field, place, value }
+/// The refusal of an error text that rests on the words of the walk.
+fn refusal(text: &str, walk: &Walk) -> Refusal {
+    let words = walk.words;
+    let (number, field, place, value) = if let Some(label) = text.strip_prefix("serialized ATN ended while reading ") {
+        (1, field(label), words.len(), 0)
+    } else {
+        let (number, field, before, value) = said(text).unwrap_or_else(|| panic!("no refusal number is known for the error text: {text}"));
+        let place = words.len() - 1 - before;
+        assert_eq!(i64::from(words[place]), value, "the word at that place is another than the one that was refused: {text}");
+        (number, field, place, value)
+    };
+    let refusal = walk.refusal(number, place, value);
+    assert_eq!(refusal.field, field, "the walk has another field at that place than the Rust: {text}; {words:?}");
+    refusal
 }
 
 /// Number, field, how far the word stands before the last one that was looked at, and the word.

@@ -1,13 +1,14 @@
-//! A word list, walked: what it holds as far as it goes, to number the edges and to know the room that it takes. It judges nothing, the
-//! Rust did.
+//! A word list, walked: what it holds as far as it goes, to know the record of a word (request R-2), to number the edges, and to know the
+//! room that it takes. It judges nothing, the Rust did.
 
-use crate::gatehazel::{EDGES, SETS, STATES};
+use crate::gatehazel::{EDGES, Refusal, SETS, STATES};
 use crate::told::{ACTIONS, DECISIONS, MODES, RULES};
 
 #[derive(Default)]
 pub struct Walk<'a> {
-    words: &'a [i32],
-    at: usize,
+    pub words: &'a [i32],
+    /// Of each word that was passed its field and the number of its record; at the end, if the words did, of the word that is missing.
+    pub spots: Vec<(u32, usize)>,
     /// The place of a table's count, and the count.
     pub counts: [Option<(usize, usize)>; 9],
     /// Of each set whose flag is there: the flag's place, and its intervals, + 1 if flagged.
@@ -29,66 +30,91 @@ impl<'a> Walk<'a> {
         walk
     }
 
-    fn next(&mut self) -> Option<i32> {
-        let word = self.words.get(self.at).copied();
-        self.at += 1;
+    /// The refusal of the word at a place, or of the one that is missing there.
+    pub fn refusal(&self, number: u32, place: usize, value: i64) -> Refusal {
+        let (field, record) = self.spots[place];
+        Refusal { number, field, place, value, record }
+    }
+
+    /// The place of the next word.
+    fn at(&self) -> usize {
+        self.spots.len()
+    }
+
+    fn next(&mut self, field: u32, record: usize) -> Option<i32> {
+        let word = self.words.get(self.at()).copied();
+        self.spots.push((field, record));
         word
     }
 
-    fn skip(&mut self, words: usize) -> Option<()> {
-        self.at = self.at.saturating_add(words);
-        (self.at <= self.words.len()).then_some(())
+    /// A word of each of these fields.
+    fn record(&mut self, number: usize, fields: &[u32]) -> Option<()> {
+        fields.iter().try_for_each(|&field| self.next(field, number).map(|_| ()))
     }
 
-    fn count(&mut self) -> Option<usize> {
-        usize::try_from(self.next()?).ok()
+    /// So many records of these fields.
+    fn records(&mut self, count: usize, fields: &[u32]) -> Option<()> {
+        (0..count).try_for_each(|number| self.record(number, fields))
     }
 
-    fn count_of(&mut self, table: usize) -> Option<usize> {
-        let count = self.count()?;
-        self.counts[table] = Some((self.at - 1, count));
+    fn count(&mut self, field: u32, record: usize) -> Option<usize> {
+        usize::try_from(self.next(field, record)?).ok()
+    }
+
+    fn count_of(&mut self, table: usize, field: u32) -> Option<usize> {
+        let count = self.count(field, 0)?;
+        self.counts[table] = Some((self.at() - 1, count));
         Some(count)
     }
 
     fn sections(&mut self) -> Option<()> {
-        self.skip(3)?;
-        for _ in 0..self.count_of(STATES)? {
-            match self.next()? {
-                0 => {}
-                3 | 4 | 5 | 12 => self.skip(2)?,
-                _ => self.skip(1)?,
-            }
+        self.record(0, &[1, 2, 3])?;
+        self.states()?;
+        for (count, named) in [(9, 10), (11, 12)] {
+            let states = self.count(count, 0)?;
+            self.records(states, &[named])?;
         }
-        for _ in 0..2 {
-            let named = self.count()?;
-            self.skip(named)?;
-        }
-        let rules = self.count_of(RULES)?;
-        self.skip(2 * rules)?;
-        let modes = self.count_of(MODES)?;
-        self.skip(modes)?;
+        let rules = self.count_of(RULES, 13)?;
+        self.records(rules, &[14, 15])?;
+        let modes = self.count_of(MODES, 16)?;
+        self.records(modes, &[17])?;
         self.sets()?;
-        for _ in 0..self.count_of(EDGES)? {
-            let at = self.at;
-            self.skip(6)?;
+        for number in 0..self.count_of(EDGES, 23)? {
+            let at = self.at();
+            self.record(number, &[24, 25, 26, 27, 28, 29])?;
             self.edges.push(std::array::from_fn(|word| self.words[at + word]));
         }
-        self.edges_end = Some(self.at);
-        let decisions = self.count_of(DECISIONS)?;
-        self.skip(decisions)?;
-        self.count_of(ACTIONS)?;
+        self.edges_end = Some(self.at());
+        let decisions = self.count_of(DECISIONS, 30)?;
+        self.records(decisions, &[31])?;
+        let actions = self.count_of(ACTIONS, 32)?;
+        self.records(actions, &[33, 34, 35])
+    }
+
+    fn states(&mut self) -> Option<()> {
+        for number in 0..self.count_of(STATES, 4)? {
+            let follow: &[u32] = match self.next(5, number)? {
+                0 => &[],
+                12 => &[6, 7],
+                3 | 4 | 5 => &[6, 8],
+                _ => &[6],
+            };
+            self.record(number, follow)?;
+        }
         Some(())
     }
 
     fn sets(&mut self) -> Option<()> {
-        let sets = self.count_of(SETS)?;
-        self.sets_from = self.at;
-        for _ in 0..sets {
-            let intervals = self.count()?;
-            let flagged = self.next()? != 0;
-            self.flags.push((self.at - 1, intervals + usize::from(flagged)));
-            self.skip(2 * intervals)?;
-            self.set_ends.push(self.at);
+        let sets = self.count_of(SETS, 18)?;
+        self.sets_from = self.at();
+        for number in 0..sets {
+            let intervals = self.count(19, number)?;
+            let flagged = self.next(20, number)? != 0;
+            self.flags.push((self.at() - 1, intervals + usize::from(flagged)));
+            for _ in 0..intervals {
+                self.record(number, &[21, 22])?;
+            }
+            self.set_ends.push(self.at());
         }
         Some(())
     }

@@ -10,8 +10,10 @@ cc -std=c99 -Wall -Wextra -Iinclude -o "$out/walk" examples/c/walk.c target/stat
 cc -std=c99 -Wall -Wextra -Iinclude -o "$out/patch" examples/c/patch.c target/staticlib/libcapi.a
 rustc --edition 2024 -O -L target/staticlib -o "$out/matching" examples/rust/matching.rs
 head -c 1927 samples/xpathlexer.atn > "$out/ragged" # a byte short
+head -c 100 samples/xpathlexer.atn > "$out/cut" # inside state 10
 {
     "$out/walk" samples/xpathlexer.atn 42
+    "$out/walk" "$out/cut" 42 || echo "status $?"
     "$out/patch" samples/xpathlexer.atn 2 7
     "$out/patch" samples/xpathlexer.atn 2 7x || echo "status $?"
     "$out/patch" samples/xpathlexer.atn 2 3000000000 || echo "status $?"

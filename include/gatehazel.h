@@ -17,11 +17,15 @@
  * refusal. Of the first 16 elements of `answer` those that are not named are 0; elements from the 17th on stay as they were; a shorter
  * `answer` gets what fits. 16 elements are always enough.
  *
- * Refusals of a decode: number, field, place (of the refused word, from 0), value.
+ * Refusals of a decode: number, field, place (of the refused word, from 0), value, record.
  *    1 words ended                      2 negative word                    3 version is not 4
  *    4 a parser's dialect               5 unknown grammar type             6 unknown state type
  *    7 a flagged state is not listed    8 unknown edge type                9 a set is not listed
  *   10 an edge's source is not listed  11 unknown action type             12 no room (value: records needed)
+ * The record is the number, from 0, of what the refused word belongs to; for 1, of what the missing word belongs to.
+ *   fields 5 to 8: the state           14, 15: the rule                   19 to 22: the set, and not the interval
+ *   24 to 29: the edge                 33 to 35: the action               10, 12, 17, 31: the place in their own list
+ *   the header (1 to 3), the counts (4, 9, 11, 13, 16, 18, 23, 30, 32), and 12 for derived edges (23): 0
  * Refusals of a question: number, value.
  *   13 no such record                  14 the tables contradict themselves
  * Refusals of a writing: number.
@@ -40,7 +44,7 @@ extern "C" {
 
 /* Decodes. 0: answer = words read, max token type, states, edges (with derived ones), derived edges, ranges, sets, rules, modes, decisions,
  * actions; every table holds its records and zeros behind them, and scratch is all zero.
- * Else: answer = number, field, place, value; every lent table is all zero. What the tables held before never matters. */
+ * Else: answer = number, field, place, value, record; every lent table is all zero. What the tables held before never matters. */
 uint32_t gatehazel_decode(const int32_t *words, size_t words_len,
     int32_t *states, size_t states_len, int32_t *edges, size_t edges_len, int32_t *ranges, size_t ranges_len,
     int32_t *sets, size_t sets_len, int32_t *rules, size_t rules_len, int32_t *modes, size_t modes_len,

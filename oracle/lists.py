@@ -53,6 +53,14 @@ FULL = network(
     edges=[eps(0, 1), (1, 3, 7, 0), call(3, 1, 2), (4, 2, 2, 65, 90)],
     decisions=[0], actions=[(0, 1, 0), (6, 0, 0)], token=1)
 
+# Three records of every kind and more: for the records that refusals name.
+THREE = {
+    "states": [(6, -1), (2, 0), (7, 0), (3, 0, 5), (12, 0, 3), (0,), (2, 1), (7, 1)],
+    "nongreedy": [3, 1, 4], "recursive": [1, 6, 1], "rules": [(1, 1), (6, 2), (3, 5)], "modes": [0, 1, 0],
+    "sets": [(1, [(48, 52), (53, 57)]), (0, [(65, 70), (80, 90), (97, 99)]), (0, [(1, 2), (5, 6), (9, 10)])],
+    "edges": [eps(0, 1), (1, 3, 7, 0), call(3, 6, 2), (4, 2, 4), (6, 7, 8, 2), (1, 2, 6, 1)],
+    "decisions": [0, 3, 4], "actions": [(0, 1, 0), (6, 0, 0), (1, 2, 3)], "token": 2}
+
 WHOLE = network(
     states=[(6, -1), (2, 0), (7, 0), (1, 0)], rules=[(1, 1)], modes=[0], sets=[(0, [(48, 52), (53, 57)])],
     edges=[eps(0, 1), (1, 3, 7), eps(3, 2)], decisions=[0], actions=[(6, 0, 0)], token=1)
@@ -170,6 +178,7 @@ def sets():
     for count in (-1, MIN):
         yield [4, 0, 0, 0, 0, 0, 0, 0, 1, count]
         yield [4, 0, 0, 0, 0, 0, 0, 0, count]
+        yield [4, 0, 0, 0, 0, 0, 0, 0, 3, 0, 0, 0, 0, count]
     yield [4, 0, 0, 0, 0, 0, 0, 0, 1, 3, 1, 1, 1, 2]
 
 
@@ -355,6 +364,16 @@ def tails():
     yield network(states=[(2, -1), (7, -1)], rules=[(0, 1)], edges=[call(0, 0, 1)])
 
 
+def records():
+    """A record of each kind that is refused, behind others."""
+    for section, bad in (
+            ("states", (13, 0)), ("states", (12, 0, -1)), ("states", (3, 0, -1)), ("nongreedy", -1), ("nongreedy", 99), ("recursive", -1),
+            ("recursive", 99), ("rules", (-1, 1)), ("modes", -1), ("edges", (-1, 0, 1)), ("edges", (0, -1, 1)), ("edges", (0, 1, 11)),
+            ("edges", (0, 1, 3, -1)), ("edges", (0, 1, 3, 0, -1)), ("edges", (0, 1, 7, 3)), ("edges", (99, 1, 1)), ("decisions", -1),
+            ("actions", (8, 0, 0))):
+        yield network(**{**THREE, section: [*THREE[section], bad]})
+
+
 def short_lists():
     """Every list of up to three of these words behind a header."""
     for n in range(4):
@@ -466,7 +485,7 @@ def hand_picked():
             ("document 01's cases", document()), ("demos", demos()), ("headers", headers()), ("states", states()), ("flags", flags()),
             ("rules and modes", rules()), ("sets", sets()), ("edges", edges()), ("actions", actions()), ("return edges", returns()),
             ("precedence", precedence()), ("tail calls", tails()), ("every short list", short_lists()), ("every length", cuts(FULL)), ("every length", cuts(WHOLE)),
-            ("every word changed", damage(FULL))):
+            ("every length", cuts(network(**THREE))), ("every word changed", damage(FULL)), ("a bad record behind others", records())):
         for words in lists:
             yield family, words
 

@@ -28,7 +28,7 @@ sys.dont_write_bytecode = True  # so that a run leaves nothing behind
 
 import built  # noqa: E402
 import lists  # noqa: E402
-from told import ORACLE, Network, ask, refusal, spelled  # noqa: E402
+from told import ORACLE, Network, Walk, ask, refusal, spelled  # noqa: E402
 
 HERE = os.path.dirname(os.path.abspath(__file__))
 RECORDED = "4.13.2"  # the version of the Python runtime whose answers demos.txt has
@@ -45,12 +45,12 @@ def lines_of(many):
 
 
 def rust(many):
-    """For each list the Rust's answer and the words it rests on; a refusal as document 01 has it."""
+    """For each list the Rust's answer and the words it rests on; a refusal as document 01 has it, without its record."""
     answers = []
     for words, reply in zip(many, ask(lines_of(many), "--probe")):
         at, verdict, rest = (reply.split(" ", 2) + [""])[:3]
         read = int(at.removeprefix("@"))
-        answers.append(("OK " + rest if verdict == "OK" else "refused %d %d %d %d" % refusal(rest, read, words), read))
+        answers.append(("OK " + rest if verdict == "OK" else "refused %d %d %d %d" % refusal(rest, Walk(words[:read]))[:4], read))
     return answers
 
 

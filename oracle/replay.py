@@ -11,9 +11,10 @@ The lists are those of lists.py: every hand-picked one, random ones from a fixed
 lent slices that are exactly full, odd, or larger, by turns; and some once more with one record too few in a table, where the answer
 12 is document 01's, since the Rust knows no rooms. The file holds little-endian 32-bit words; a case is
     nine lengths · number of words, words · 0, eleven counts, and for each table the number of its records' words, and these
-                                          or number, field, place, value
+                                          or number, field, place, value, record
                  · number of written words, and these; 0 where the list is refused
-and stands whole in a block of 65,536 words, which words of -1 fill up.
+and stands whole in a block of 65,536 words, which words of -1 fill up. Every kind of refusal is among them: each number at each field
+where it can be, and there also with a record above 0, if it can have one.
 """
 
 import itertools
@@ -113,7 +114,7 @@ def split(words):
             continue
         end = at + 10 + words[at + 9]
         if words[end]:
-            behind = end + 4
+            behind = end + 5
         else:
             behind = end + 12
             for _ in told.TABLES:
@@ -121,6 +122,24 @@ def split(words):
         last = behind + 1 + words[behind]
         yield words[at:at + 9], words[at + 10:end], words[end:behind], words[behind + 1:last]
         at = last
+
+
+def shown(stored):
+    """The kinds of refusals that are stored: number and field; 12 for return edges, and a record above 0, apart."""
+    for _, words, said, _ in split(stored):
+        if said[0]:
+            number, field, place, _, record = said
+            derived = number == 12 and told.Walk(words).spots[place][0] != field
+            yield number, field, "for return edges" if derived else ""
+            if record:
+                yield number, field, "a record above 0"
+
+
+def wanted():
+    """All kinds that there are."""
+    pairs = told.PAIRS | {(12, field) for field in told.ROOM_FIELDS}
+    return ({(*pair, "") for pair in pairs} | {(12, 23, "for return edges")}
+            | {(*pair, "a record above 0") for pair in pairs if pair[1] in told.NAMING})
 
 
 def print_case(number):
@@ -141,6 +160,8 @@ def main():
         return print(__doc__)
     all_cases = list(cases())
     words = blocks(all_cases)
+    found = set(shown(words))
+    assert found == wanted(), "kinds of refusals that are missing, or cannot be: %s" % sorted(found ^ wanted())
     os.makedirs(os.path.dirname(FILE), exist_ok=True)
     with open(FILE, "wb") as file:
         file.write(struct.pack("<%di" % len(words), *words))

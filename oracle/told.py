@@ -1,6 +1,7 @@
-"""What the oracle says of a word list, put as document 01 puts it: a refusal's number, field, place and value, or
-the counts and the records of every table. All of it is the Rust's own, but for the numbers of the edges and the
-room that a list takes, which the words give; and `short_of_room`, since the Rust knows no rooms."""
+"""What the oracle says of a word list, put as document 01 puts it: a refusal's number, field, place, value and record,
+or the counts and the records of every table. All of it is the Rust's own, but for a refusal's record (document 02, R-2),
+the numbers of the edges and the room that a list takes, which the words give; and `short_of_room`, since the Rust knows
+no rooms."""
 
 import os
 import re
@@ -55,41 +56,57 @@ PAIRS = (
     | {(2, field) for field in (4, *range(7, 15), *range(16, 20), 23, 24, 25, 27, 28, 30, 31, 32)}
     | {(3, 1), (4, 2), (5, 2), (6, 5), (7, 10), (7, 12), (8, 26), (9, 27), (10, 24), (11, 33)})
 
+# The fields of 12; at 23 it comes at the count, and behind the last edge.
+ROOM_FIELDS = (4, 13, 16, 18, 20, 23, 30, 32)
 
-def refusal(text, rests_on, words):
-    """Number, field, place and value of an error text that rests on so many words."""
-    last = rests_on - 1
+# The fields whose record may be above 0.
+NAMING = {*range(5, 9), 10, 12, 14, 15, 17, *range(19, 23), *range(24, 30), 31, *range(33, 36)}
+
+
+def refusal(text, walk):
+    """Number, field, place, value and record of an error text that rests on the words of the walk."""
+    words = walk.words
     ended = re.fullmatch(r"serialized ATN ended while reading (.+)", text)
     if ended:
-        return (1, FIELDS[ended[1]], len(words), 0)
+        number, field, place, value = 1, FIELDS[ended[1]], len(words), 0
+    else:
+        number, field, before, value = said(text)
+        place = len(words) - 1 - before
+        assert words[place] == value, "the word at that place is another than the one that was refused"
+    answer = walk.refusal(number, place, value)
+    assert answer[1] == field, "the walk has another field at that place than the Rust: %s, of %s" % (text, spelled(words))
+    return answer
+
+
+def said(text):
+    """Number, field, how far the word stands before the last one that was looked at, and the word."""
     negative = re.fullmatch(r"(.+) cannot be negative: (-\d+)", text)
     if negative and negative[1] in ARGUMENTS:
         field = ARGUMENTS[negative[1]]
-        answer = (2, field, last - (29 - field), int(negative[2]))
-    elif negative:
-        answer = (2, FIELDS[negative[1]], last, int(negative[2]))
-    else:
-        for pattern, number, field, before in ERRORS:
-            found = re.fullmatch(pattern, text)
-            if found:
-                # only the text for a parser's words, grammar type 1, does not say the word
-                answer = (number, field, last - before, int(found[1]) if found.groups() else 1)
-                break
-        else:
-            raise ValueError("no refusal number is known for the error text: " + text)
-    assert words[answer[2]] == answer[3], "the word at that place is another than the one that was refused"
-    return answer
+        return 2, field, 29 - field, int(negative[2])
+    if negative:
+        return 2, FIELDS[negative[1]], 0, int(negative[2])
+    for pattern, number, field, before in ERRORS:
+        found = re.fullmatch(pattern, text)
+        if found:
+            # only the text for a parser's words, grammar type 1, does not say the word
+            return number, field, before, int(found[1]) if found.groups() else 1
+    raise ValueError("no refusal number is known for the error text: " + text)
 
 
 # ---- the words, walked
 
+# The fields behind a state's type, by type; of other types the rule index alone.
+FOLLOW = {0: (), 3: (6, 8), 4: (6, 8), 5: (6, 8), 12: (6, 7)}
+
 
 class Walk:
-    """What the words hold as far as they go: each count and its place, the sets and the edges that are there whole,
-    and the place behind the last edge. It judges nothing: the oracle did."""
+    """What the words hold as far as they go: what each belongs to, each count and its place, the sets and the edges that
+    are there whole, and the place behind the last edge. It judges nothing: the oracle did."""
 
     def __init__(self, words):
-        self.words, self.at = words, 0
+        self.words = words
+        self.spots = []  # of each word that was passed, and of the one that is missing, if the words end: its field and its record
         self.counts, self.places, self.edges = {}, {}, []
         self.flags = []  # of each set whose flag is there: the flag's place; its intervals, + 1 if flagged
         self.set_ends, self.sets_from, self.edges_end = [], None, None
@@ -98,47 +115,62 @@ class Walk:
         except (IndexError, ValueError):
             pass
 
-    def next(self):
-        word = self.words[self.at]
-        self.at += 1
-        return word
+    def refusal(self, number, place, value):
+        """The refusal of the word at a place, or of the one that is missing there."""
+        field, record = self.spots[place]
+        return (number, field, place, value, record)
 
-    def count(self, table=None):
-        number = self.next()
+    def at(self):
+        """The place of the next word."""
+        return len(self.spots)
+
+    def next(self, field, record):
+        self.spots.append((field, record))
+        return self.words[self.at() - 1]
+
+    def record(self, number, *fields):
+        """A word of each of these fields."""
+        return [self.next(field, number) for field in fields]
+
+    def records(self, count, *fields):
+        """So many records of these fields."""
+        for number in range(count):
+            self.record(number, *fields)
+
+    def count(self, field, record=0):
+        number = self.next(field, record)
         if number < 0:
             raise ValueError
-        if table:
-            self.counts[table], self.places[table] = number, self.at - 1
         return number
 
+    def count_of(self, table, field):
+        self.counts[table] = self.count(field)
+        self.places[table] = self.at() - 1
+        return self.counts[table]
+
     def sections(self):
-        for _ in range(3):
-            self.next()
-        for _ in range(self.count("States")):
-            kind = self.next()
-            for _ in range(0 if kind == 0 else 2 if kind in (3, 4, 5, 12) else 1):
-                self.next()
-        for _ in range(2):
-            for _ in range(self.count()):
-                self.next()
-        for _ in range(2 * self.count("Rules")):
-            self.next()
-        for _ in range(self.count("Modes")):
-            self.next()
-        sets = self.count("Sets")
-        self.sets_from = self.at
-        for _ in range(sets):
-            intervals = self.count()
-            self.flags.append((self.at, intervals + (self.next() != 0)))
-            for _ in range(2 * intervals):
-                self.next()
-            self.set_ends.append(self.at)
-        for _ in range(self.count("Edges")):
-            self.edges.append([self.next() for _ in range(6)])
-        self.edges_end = self.at
-        for _ in range(self.count("Decisions")):
-            self.next()
-        self.count("Actions")
+        self.record(0, 1, 2, 3)
+        for number in range(self.count_of("States", 4)):
+            self.record(number, *FOLLOW.get(self.next(5, number), (6,)))
+        self.records(self.count(9), 10)
+        self.records(self.count(11), 12)
+        self.records(self.count_of("Rules", 13), 14, 15)
+        self.records(self.count_of("Modes", 16), 17)
+        self.sets(self.count_of("Sets", 18))
+        for number in range(self.count_of("Edges", 23)):
+            self.edges.append(self.record(number, 24, 25, 26, 27, 28, 29))
+        self.edges_end = self.at()
+        self.records(self.count_of("Decisions", 30), 31)
+        self.records(self.count_of("Actions", 32), 33, 34, 35)
+
+    def sets(self, count):
+        self.sets_from = self.at()
+        for number in range(count):
+            intervals = self.count(19, number)
+            self.flags.append((self.at(), intervals + (self.next(20, number) != 0)))
+            for _ in range(intervals):
+                self.record(number, 21, 22)
+            self.set_ends.append(self.at())
 
     def to_edges(self):
         """The list up to its edges, with no decisions and no actions: for the return edges of a list that is refused later."""
@@ -207,7 +239,7 @@ class Told:
         self.rests_on = int(at.removeprefix("@"))
         self.walk = Walk(words[:self.rests_on])
         self.network = Network(rest) if verdict == "OK" else None
-        self.refused = refusal(rest, self.rests_on, words) if verdict == "ERR" else None
+        self.refused = refusal(rest, self.walk) if verdict == "ERR" else None
         self.kept = []  # what each set keeps, and how many edges there are with the return edges: asked for in `consult`
         self.all_edges = None
 
@@ -279,13 +311,12 @@ class Told:
         "Room is tested as soon as a count is known good ..; ranges after field 20 ..; derived edges after the last edge"."""
         room = {table: min(65536, lent[table] // width) for table, width in TABLES.items()}
         room["States"] = min(room["States"], room["Scratch"])
-        fields = {"States": 4, "Rules": 13, "Modes": 16, "Sets": 18, "Edges": 23, "Decisions": 30, "Actions": 32}
+        walk = self.walk
         # words read before the test, the table, the refusal
-        tests = [(place + 1, table, (12, fields[table], place, self.walk.counts[table])) for table, place in self.walk.places.items()]
-        tests += [(place + 1, "Ranges", (12, 20, place, need)) for place, need in self.needs]
+        tests = [(place + 1, table, walk.refusal(12, place, walk.counts[table])) for table, place in walk.places.items()]
+        tests += [(place + 1, "Ranges", walk.refusal(12, place, need)) for place, need in self.needs]
         if self.all_edges is not None:
-            end = self.walk.edges_end
-            tests.append((end, "Edges", (12, 23, end, self.all_edges)))
+            tests.append((walk.edges_end, "Edges", (12, 23, walk.edges_end, self.all_edges, 0)))
         for read, table, answer in sorted(tests):
             if answer[3] > room[table]:
                 first = self.refused is None or self.refused[0] == 1 or read < self.rests_on

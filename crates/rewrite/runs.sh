@@ -46,6 +46,8 @@ runs() {
     run ragged.atn
     run cut.atn
     run refused.atn
+    run state.atn
+    run mark.atn
     run empty.atn
     echo '$ rewrite whole.atn > /dev/full'
     "$top/target/bin/rewrite" whole.atn 2>&1 > /dev/full

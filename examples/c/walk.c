@@ -22,7 +22,8 @@ int main(int argc, char **argv) {
     uint32_t refused = gatehazel_decode(words, count, states, LEN(states), edges, LEN(edges), ranges, LEN(ranges), sets, LEN(sets),
         rules, LEN(rules), modes, LEN(modes), decisions, LEN(decisions), actions, LEN(actions), scratch, LEN(scratch), answer, LEN(answer));
     if (refused != 0) {
-        printf("refused %u: field %lld, place %lld, value %lld\n", refused, (long long)answer[1], (long long)answer[2], (long long)answer[3]);
+        printf("refused %u: field %lld, place %lld, value %lld, record %lld\n", refused, (long long)answer[1], (long long)answer[2],
+            (long long)answer[3], (long long)answer[4]);
         return 1;
     }
     size_t state_count = (size_t)answer[2], edge_count = (size_t)answer[3], range_count = (size_t)answer[5], set_count = (size_t)answer[6];

@@ -1,4 +1,5 @@
-//! Decodes document 01's whole case through the C interface, each function wrapped in a safe one, and asks which digits its set has.
+//! Decodes document 01's whole case through the C interface, each function wrapped in a safe one, and asks which digits its set has; then
+//! the same words cut, and damaged.
 //! examples/run.sh builds and runs it.
 
 mod c {
@@ -21,7 +22,7 @@ struct Tables {
     modes: Vec<i32>, decisions: Vec<i32>, actions: Vec<i32>, scratch: Vec<i32>,
 }
 
-/// The answer: the counts, or the refusal's number, field, place and value.
+/// The answer: the counts, or the refusal's number, field, place, value and record.
 fn decode(words: &[i32], t: &mut Tables) -> Result<[i64; 16], [i64; 16]> {
     let mut answer = [0i64; 16];
     // Sound: every pointer comes from a slice with its own length, and the borrow checker keeps the slices apart.
@@ -58,7 +59,11 @@ fn main() {
             let digits: String = ('!'..='z').filter(|c| lookup(set, *c as i32)).collect();
             println!("set 0 has {digits}");
         }
-        Err(a) => println!("refused {}: field {}, place {}, value {}", a[0], a[1], a[2], a[3]),
+        Err(a) => println!("refused {}: field {}, place {}, value {}, record {}", a[0], a[1], a[2], a[3], a[4]),
     }
-    println!("cut after 50 words: {:?}", decode(&words[..50], &mut t).map_err(|a| a[..4].to_vec()));
+    let mut damaged = words;
+    damaged[10] = 13; // the type of state 3, the last
+    for (what, list) in [("cut after 50 words", &words[..50]), ("with 13 at place 10", &damaged[..])] {
+        println!("{what}: {:?}", decode(list, &mut t).map_err(|a| a[..5].to_vec()));
+    }
 }

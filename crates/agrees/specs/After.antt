@@ -77,18 +77,18 @@ module _ (ws : List ℤ) (rooms : Table → ℕ) (at : ℕ) where
       ∙ after-after (run q ws rooms at) (λ a n. ok (x a n) n) (λ y n. ok (with (y .counts) (put (y .table) (h .table))) n))
       f
 
-pub times-long : {A : Type 0} (p : Prog A) (n : ℕ) (ws : List ℤ) (rooms : Table → ℕ) (at : ℕ) {l : List A} {m : ℕ} → run (times n p) ws rooms at ≡ ok l m → length l ≡ n
-times-long {A} p n ws rooms at e =
-    given rooms (λ (l : List A). (length l ≡ n) × Every Any l) (times n p) (gives-times Any rooms Any n p (gives-any Any rooms p)) ws at e .0
+pub times-long : {A : Type 0} (p : ℕ → Prog A) (n i : ℕ) (ws : List ℤ) (rooms : Table → ℕ) (at : ℕ) {l : List A} {m : ℕ} → run (times n i p) ws rooms at ≡ ok l m → length l ≡ n
+times-long {A} p n i ws rooms at e =
+    given rooms (λ (l : List A). (length l ≡ n) × Every Any l) (times n i p) (gives-times Any rooms Any n i p (λ j. gives-any Any rooms (p j))) ws at e .0
 
--- What n turns of p gave, each by f; their numbers do not matter.
-pub times-map : {A B : Type 0} (p : Prog A) (f : A → B) (ws : List ℤ) (rooms : Table → ℕ) (n i at : ℕ)
-    → run (times n (p >>= (λ a. done (f a)))) ws rooms at ≡ after (run (times n p) ws rooms at) (λ l m. ok (numbered i (λ j a. f a) l) m)
+-- What n turns of p gave, each by f.
+pub times-map : {A B : Type 0} (p : ℕ → Prog A) (f : A → B) (ws : List ℤ) (rooms : Table → ℕ) (n i at : ℕ)
+    → run (times n i (λ j. p j >>= (λ a. done (f a)))) ws rooms at ≡ after (run (times n i p) ws rooms at) (λ l m. ok (numbered i (λ j a. f a) l) m)
 unfolding run times
 times-map p f ws rooms zero i at = refl
 times-map p f ws rooms (suc n) i at =
-    laid-first ws rooms at (p >>= (λ a. done (f a))) (λ b. times n (p >>= (λ a. done (f a))) >>= (λ l. done (b ∷ l))) p (λ a. times n p >>= (λ l. done (a ∷ l))) (λ a m. f a)
+    laid-first ws rooms at (p i >>= (λ a. done (f a))) (λ b. times n (i + 1) (λ j. p j >>= (λ a. done (f a))) >>= (λ l. done (b ∷ l))) (p i) (λ a. times n (i + 1) p >>= (λ l. done (a ∷ l))) (λ a m. f a)
     (λ l m. ok (numbered i (λ j a. f a) l) m)
-    (run-bind p (λ a. done (f a)) ws rooms at)
-    (λ a m e. laid-first ws rooms m (times n (p >>= (λ a. done (f a)))) (λ l. done (f a ∷ l)) (times n p) (λ l. done (a ∷ l)) (λ l k. numbered (i + 1) (λ j a. f a) l) (λ l m. ok (numbered i (λ j a. f a) l) m)
+    (run-bind (p i) (λ a. done (f a)) ws rooms at)
+    (λ a m e. laid-first ws rooms m (times n (i + 1) (λ j. p j >>= (λ a. done (f a)))) (λ l. done (f a ∷ l)) (times n (i + 1) p) (λ l. done (a ∷ l)) (λ l k. numbered (i + 1) (λ j a. f a) l) (λ l m. ok (numbered i (λ j a. f a) l) m)
     (times-map p f ws rooms n (i + 1) m) (λ l k d. refl))

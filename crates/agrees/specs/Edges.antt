@@ -40,17 +40,17 @@ module _ (ss : List State) (a b : ℕ) (F : ℕ → ℕ) (nsets : ℕ) (ws : Lis
 
   -- n edges more, behind the i that es are
   edges-turns : (n i : ℕ) (es : List Edge) (at : ℕ) → i ≡ length es → 8 * (i + n) ≤ b → i + n ≤ 65536
-      → run (turns n i (edgeOne (length ss) nsets) (tables es)) ws rooms at ≡ after (run (times n (edge (length ss) nsets)) ws rooms at) (λ xs m. ok (tables (es ++ xs)) m)
+      → run (turns n i (edgeOne (length ss) nsets) (tables es)) ws rooms at ≡ after (run (times n i (edge (length ss) nsets)) ws rooms at) (λ xs m. ok (tables (es ++ xs)) m)
   unfolding run turns times edgeOne
   edges-turns zero i es at e h k = ap (λ (l : List Edge). ok (tables l) at) (sym (append-nil es))
   edges-turns (suc n) i es at e h k =
-      laid-first ws rooms at (edge (length ss) nsets >>= (λ x. done (linked i 0 x (tables es)))) _ (edge (length ss) nsets) _ (λ x m. linked i 0 x (tables es)) _
-      (run-bind (edge (length ss) nsets) (λ x. done (linked i 0 x (tables es))) ws rooms at)
+      laid-first ws rooms at (edge (length ss) nsets i >>= (λ x. done (linked i 0 x (tables es)))) _ (edge (length ss) nsets i) _ (λ x m. linked i 0 x (tables es)) _
+      (run-bind (edge (length ss) nsets i) (λ x. done (linked i 0 x (tables es))) ws rooms at)
       (λ x m q.
-      ap (λ (t : Net). run (turns n (i + 1) (edgeOne (length ss) nsets) t) ws rooms m) (one x (given rooms (Sound (length ss) nsets) (edge (length ss) nsets) (edge-sound rooms (length ss) nsets) ws at q .listed))
+      ap (λ (t : Net). run (turns n (i + 1) (edgeOne (length ss) nsets) t) ws rooms m) (one x (given rooms (Sound (length ss) nsets) (edge (length ss) nsets i) (edge-sound rooms (length ss) nsets i) ws at q .listed))
       ∙ edges-turns n (i + 1) (es ++ (x ∷ [])) m (omega (arith, length-append es (x ∷ []))) (omega arith) (omega arith)
-      ∙ after-same (run (times n (edge (length ss) nsets)) ws rooms m) _ (λ xs k. ok (tables (es ++ (x ∷ xs))) k) (λ xs k d. ap (λ (l : List Edge). ok (tables l) k) (append-assoc es (x ∷ []) xs))
-      ∙ sym (after-map ws rooms m (times n (edge (length ss) nsets)) (λ xs. x ∷ xs) (λ xs k. ok (tables (es ++ xs)) k)))
+      ∙ after-same (run (times n (i + 1) (edge (length ss) nsets)) ws rooms m) _ (λ xs k. ok (tables (es ++ (x ∷ xs))) k) (λ xs k d. ap (λ (l : List Edge). ok (tables l) k) (append-assoc es (x ∷ []) xs))
+      ∙ sym (after-map ws rooms m (times n (i + 1) (edge (length ss) nsets)) (λ xs. x ∷ xs) (λ xs k. ok (tables (es ++ xs)) k)))
     where
       one : (x : Edge) → x .source < length ss → linked i 0 x (tables es) ≡ tables (es ++ (x ∷ []))
       one x l = rw e (linked-more ss a b F (λ j. 0) es x l (omega arith) (omega arith) 0 refl)
@@ -65,20 +65,20 @@ module _ (ss : List State) (a b : ℕ) (F : ℕ → ℕ) (c : Counts) (ws : List
   filled es m = ok (with (counted Edges c (length es) m) (net (statesForm a F es ss) (edgesForm b (λ i. 0) es))) m
 
   -- n edges, where there is room for them
-  edges-from : (n m : ℕ) → n ≤ rooms Edges → run (edgesFrom begun n) ws rooms m ≡ after (run (times n (edge (length ss) (c .sets))) ws rooms m) filled
+  edges-from : (n m : ℕ) → n ≤ rooms Edges → run (edgesFrom begun n) ws rooms m ≡ after (run (times n 0 (edge (length ss) (c .sets))) ws rooms m) filled
   unfolding run
   edges-from n m h =
       run-bind (turns n 0 (edgeOne (c .states) (c .sets)) (begun .table)) (edgesEnd c n) ws rooms m
       ∙ ap (λ (k : ℕ). after (run (turns n 0 (edgeOne k (c .sets)) (begun .table)) ws rooms m) (λ t i. run (edgesEnd c n t) ws rooms i)) states
       ∙ ap (λ (k : ℕ). after (run (turns n 0 (edgeOne (length ss) (c .sets)) (net (statesForm a F [] ss) (zeros k))) ws rooms m) (λ t i. run (edgesEnd c n t) ws rooms i)) (sym (sub-zero b))
       ∙ ap (λ (o : Outcome Net). after o (λ t i. run (edgesEnd c n t) ws rooms i)) (edges-turns ss a b F (c .sets) ws rooms n 0 [] m refl (omega arith) (omega arith))
-      ∙ after-after (run (times n (edge (length ss) (c .sets))) ws rooms m) (λ es i. ok (tables ss a b F (c .sets) ws rooms es) i) (λ t i. run (edgesEnd c n t) ws rooms i)
-      ∙ after-same (run (times n (edge (length ss) (c .sets))) ws rooms m) _ filled
-      (λ es i q. ap (λ (k : ℕ). ok (with (counted Edges c k i) (tables ss a b F (c .sets) ws rooms es)) i) (sym (times-long (edge (length ss) (c .sets)) n ws rooms m q)))
+      ∙ after-after (run (times n 0 (edge (length ss) (c .sets))) ws rooms m) (λ es i. ok (tables ss a b F (c .sets) ws rooms es) i) (λ t i. run (edgesEnd c n t) ws rooms i)
+      ∙ after-same (run (times n 0 (edge (length ss) (c .sets))) ws rooms m) _ filled
+      (λ es i q. ap (λ (k : ℕ). ok (with (counted Edges c k i) (tables ss a b F (c .sets) ws rooms es)) i) (sym (times-long (edge (length ss) (c .sets)) n 0 ws rooms m q)))
 
   -- The section of edges fills the tables with the edges that it gives.
   pub edging-is : (at : ℕ) → run (edging begun) ws rooms at ≡ after (run (edges (length ss) (c .sets)) ws rooms at) filled
   unfolding edging edges
   edging-is at =
-      same-first ws rooms at (count Edges 23) (edgesFrom begun) (λ n. times n (edge (length ss) (c .sets))) filled
+      same-first ws rooms at (count Edges 23) (edgesFrom begun) (λ n. times n 0 (edge (length ss) (c .sets))) filled
       (λ n m q. edges-from n m (given rooms (λ k. k ≤ rooms Edges) (count Edges 23) (gives-count Any rooms Edges 23) ws at q))

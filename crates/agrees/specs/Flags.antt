@@ -9,9 +9,10 @@ use lib.Dec.{ltb, eqb}
 use lib.IntN.{ℤ, pos, negsuc}
 use lib.ListN.{length, getD}
 use borrow.Author.Tests.{ltb-true, eq-eqb, ne-eqb}
-use Rattle.format.specs.Reading.{Table, Outcome, ok, done, run, _>>=_, times, pick, fail, natural, listed, index}
+use Rattle.format.specs.Reading.{Table, Outcome, ok, done, run, _>>=_, times, pick, fail, natural, listed, index, spot}
 use Rattle.format.specs.Sections.{State, Edge, bit, among, named, flags}
 use Rattle.format.specs.declared.Counts.{Counts}
+use Rattle.format.specs.declared.Spot.{Spot}
 use Rattle.laws.specs.Running.{after, run-bind, turns}
 use Rattle.laws.specs.Gives.{Gives, Any}
 use Rattle.inplace.specs.Held.{with}
@@ -34,7 +35,7 @@ states-same : (N : ℕ) (es : List Edge) (ss : List State) (F G : ℕ → ℕ) �
 states-same N es ss F G h = ap (λ (H : ℕ → ℕ). statesForm N H es ss) (fun-ext h)
 
 -- a named state is listed
-named-listed : (rooms : Table → ℕ) (n f : ℕ) → Given rooms (λ s. s < n) (named n f)
+named-listed : (rooms : Table → ℕ) (n : ℕ) (f : Spot) → Given rooms (λ s. s < n) (named n f)
 unfolding named Gives _>>=_
 named-listed rooms n f = λ p v x. go p v
   where
@@ -67,30 +68,30 @@ module _ (b N : ℕ) (mark : ℕ → Bool → ℕ) (or-mark : (s : ℕ) (x : Boo
       (or-mark s (P s) ∙ ap (mark s) (sym (or-yes (P s) (eqb s s) (eq-eqb s s refl))))
 
   flag-turns : (f k i : ℕ) (P : ℕ → Bool) (at : ℕ) → run (turns k i (flagOne b (length ss) f) (statesForm N (λ j. mark j (P j)) es ss)) ws rooms at
-      ≡ after (run (times k (named (length ss) f)) ws rooms at) (λ l m. ok (statesForm N (λ j. mark j (P j || among j l)) es ss) m)
+      ≡ after (run (times k i (λ i. named (length ss) (spot f i))) ws rooms at) (λ l m. ok (statesForm N (λ j. mark j (P j || among j l)) es ss) m)
   unfolding run turns times flagOne
   flag-turns f zero i P at = ap (λ (t : List ℤ). ok t at) (states-same N es ss (λ j. mark j (P j)) (λ j. mark j (P j || false)) (λ j. ap (mark j) (sym (or-no (P j) false refl))))
   flag-turns f (suc k) i P at =
-      laid-first ws rooms at (named (length ss) f >>= (λ s. done (flagAt b s (statesForm N (λ j. mark j (P j)) es ss)))) _ (named (length ss) f) _
+      laid-first ws rooms at (named (length ss) (spot f i) >>= (λ s. done (flagAt b s (statesForm N (λ j. mark j (P j)) es ss)))) _ (named (length ss) (spot f i)) _
       (λ s m. flagAt b s (statesForm N (λ j. mark j (P j)) es ss)) _
-      (run-bind (named (length ss) f) (λ s. done (flagAt b s (statesForm N (λ j. mark j (P j)) es ss))) ws rooms at)
+      (run-bind (named (length ss) (spot f i)) (λ s. done (flagAt b s (statesForm N (λ j. mark j (P j)) es ss))) ws rooms at)
       (λ s m e.
-      ap (λ (t : List ℤ). run (turns k (i + 1) (flagOne b (length ss) f) t) ws rooms m) (one-flag P s (given rooms (λ s. s < length ss) (named (length ss) f) (named-listed rooms (length ss) f) ws at e))
+      ap (λ (t : List ℤ). run (turns k (i + 1) (flagOne b (length ss) f) t) ws rooms m) (one-flag P s (given rooms (λ s. s < length ss) (named (length ss) (spot f i)) (named-listed rooms (length ss) (spot f i)) ws at e))
       ∙ flag-turns f k (i + 1) (λ j. P j || eqb j s) m
-      ∙ after-same (run (times k (named (length ss) f)) ws rooms m) _ (λ l n. ok (statesForm N (λ j. mark j (P j || among j (s ∷ l))) es ss) n)
+      ∙ after-same (run (times k (i + 1) (λ i. named (length ss) (spot f i))) ws rooms m) _ (λ l n. ok (statesForm N (λ j. mark j (P j || among j (s ∷ l))) es ss) n)
       (λ l n d. ap (λ (t : List ℤ). ok t n) (states-same N es ss (λ j. mark j ((P j || eqb j s) || among j l)) (λ j. mark j (P j || (eqb j s || among j l))) (λ j. ap (mark j) (or-more (P j) (eqb j s) (among j l)))))
-      ∙ sym (after-map ws rooms m (times k (named (length ss) f)) (λ l. s ∷ l) (λ l n. ok (statesForm N (λ j. mark j (P j || among j l)) es ss) n)))
+      ∙ sym (after-map ws rooms m (times k (i + 1) (λ i. named (length ss) (spot f i))) (λ l. s ∷ l) (λ l n. ok (statesForm N (λ j. mark j (P j || among j l)) es ss) n)))
 
   -- The section, where no state has the flag yet.
   flags-are : (f : ℕ) (c : Counts) (at : ℕ) → c .states ≡ length ss → run (flagging b f (with c (statesForm N (λ j. mark j false) es ss))) ws rooms at
       ≡ after (run (flags (length ss) f) ws rooms at) (λ l m. ok (with (moved c m) (statesForm N (λ j. mark j (among j l)) es ss)) m)
   unfolding flagging flags run
   flags-are f c at q =
-      same-first ws rooms at (index f) (flagsFrom b f (with c (statesForm N (λ j. mark j false) es ss))) (λ k. times k (named (length ss) (f + 1))) _ (λ k m e.
+      same-first ws rooms at (index (spot f 0)) (flagsFrom b f (with c (statesForm N (λ j. mark j false) es ss))) (λ k. times k 0 (λ i. named (length ss) (spot (f + 1) i))) _ (λ k m e.
       ap (λ (n : ℕ). run (turns k 0 (flagOne b n (f + 1)) (statesForm N (λ j. mark j false) es ss) >>= flagsEnd c) ws rooms m) q
       ∙ run-bind (turns k 0 (flagOne b (length ss) (f + 1)) (statesForm N (λ j. mark j false) es ss)) (flagsEnd c) ws rooms m
       ∙ ap (λ (o : Outcome (List ℤ)). after o (λ t n. ok (with (moved c n) t) n)) (flag-turns (f + 1) k 0 (λ j. false) m)
-      ∙ after-after (run (times k (named (length ss) (f + 1))) ws rooms m) (λ l n. ok (statesForm N (λ j. mark j (among j l)) es ss) n) (λ t n. ok (with (moved c n) t) n))
+      ∙ after-after (run (times k 0 (λ i. named (length ss) (spot (f + 1) i))) ws rooms m) (λ l n. ok (statesForm N (λ j. mark j (among j l)) es ss) n) (λ t n. ok (with (moved c n) t) n))
 
 or-one : (x : Bool) → bitOr (bit x) 1 ≡ 1
 or-one true = refl

@@ -9,7 +9,7 @@ use lib.IntN.{ℤ, pos}
 use lib.ListN.{length, getD, take, drop, length-append, drop-of-length-le, List·getD-append}
 use lib.Seq.{take-suc, take-length, drop-cons, drop-append-le}
 use borrow.Author.Tests.{lt-ltb, le-ltb, ltb-true, leb-true}
-use Rattle.format.specs.Reading.{Table, Edges, Outcome, ok, no, run, pick, noRoom}
+use Rattle.format.specs.Reading.{Table, Edges, Outcome, ok, no, run, pick, noRoom, spot}
 use Rattle.format.specs.Sections.{State, Rule, Edge, edgeOf, same, size, bit}
 use Rattle.format.specs.Links.{numbersFrom, first, each, names, leaving, chain, next, stateAt, stopOf, stops, returns, derived}
 use Rattle.format.specs.Decode as decode
@@ -268,7 +268,7 @@ module _ (ss : List State) (rs : List Rule) (es : List Edge) (a b d : ℕ) (F : 
   -- What the program answers: n states, k rules, m edges, x return edges.
   abbrev tested : Bool → ℕ → ℕ → ℕ → ℕ → Net → Outcome (Held Net)
   tested r n k m x t =
-      pick r (ok (with (derivedCounted c x) (returnsFrom (rooms Edges) n k (rulesForm d ss rs) n (growing t m) .tables)) (c .words)) (no (noRoom 23 (c .words) (m + x)))
+      pick r (ok (with (derivedCounted c x) (returnsFrom (rooms Edges) n k (rulesForm d ss rs) n (growing t m) .tables)) (c .words)) (no (noRoom (spot 23 0) (c .words) (m + x)))
 
   abbrev answers : ℕ → ℕ → ℕ → ℕ → Net → Outcome (Held Net)
   answers n k m x t = tested (leb (m + x) (rooms Edges)) n k m x t
@@ -302,6 +302,6 @@ module _ (ss : List State) (rs : List Rule) (es : List Edge) (a b d : ℕ) (F : 
     where
       go : (t : Bool) → leb (length es + length ds) (rooms Edges) ≡ t
           → tested t (length ss) (length rs) (length es) (length ds) (marked es)
-          ≡ after (pick t (ok es (c .words)) (no (noRoom 23 (c .words) (length es + length ds)))) (λ u m. ok (with (derivedCounted c (length ds)) filled) m)
+          ≡ after (pick t (ok es (c .words)) (no (noRoom (spot 23 0) (c .words) (length es + length ds)))) (λ u m. ok (with (derivedCounted c (length ds)) filled) m)
       go true q = ap (λ (t : Net). ok (with (derivedCounted c (length ds)) t) (c .words)) (added (leb-true (length es + length ds) (rooms Edges) q))
       go false q = refl

@@ -6,7 +6,7 @@ use native.Mathlib.Omega.{arith}
 use native.Mathlib.Nat.{zero-add}
 use lib.IntN.{ℤ, pos}
 use lib.ListN.{length, take, drop, length-replicate}
-use Rattle.format.specs.Reading.{Table, States, Rules, Modes, Decisions, Actions, Outcome, ok, Prog, done, run, _>>=_, times, index, count}
+use Rattle.format.specs.Reading.{Table, States, Rules, Modes, Decisions, Actions, Outcome, ok, Prog, done, run, _>>=_, times, index, count, spot}
 use Rattle.format.specs.Sections.{none, state, states, rule, rules, modes, decisions, action, actions}
 use Rattle.format.specs.Links.{flat}
 use Rattle.format.specs.Tables.{width, listOf, stateWord, actionWords, zeros}
@@ -33,29 +33,29 @@ laid-all w N n f l wide e h =
     ∙ ap (λ (x : List ℤ). flat (listOf f l) ++ x) (drop-zeros (length (flat (listOf f l))) N (omega arith))
 
 -- A section of records that p reads and f lays out. There is room for all that may be counted.
-module _ {A : Type 0} (t : Table) (p : Prog A) (f : A → List ℤ) (row : rowOf t ≡ (p >>= (λ a. done (f a)))) (wide : (a : A) → length (f a) ≡ width t)
+module _ {A : Type 0} (t : Table) (p : ℕ → Prog A) (f : A → List ℤ) (row : rowOf t ≡ (λ i. p i >>= (λ a. done (f a)))) (wide : (a : A) → length (f a) ≡ width t)
     (rooms : Table → ℕ) (N : ℕ) (fit : (n : ℕ) → n ≤ rooms t → width t * n ≤ N) (ws : List ℤ) where
-  records : (n : ℕ) → n ≤ rooms t → (at : ℕ) → run (turns n 0 (puts (width t) (rowOf t)) (zeros N)) ws rooms at ≡ after (run (times n p) ws rooms at) (λ l m. ok (padded N (listOf f l)) m)
+  records : (n : ℕ) → n ≤ rooms t → (at : ℕ) → run (turns n 0 (puts (width t) (rowOf t)) (zeros N)) ws rooms at ≡ after (run (times n 0 p) ws rooms at) (λ l m. ok (padded N (listOf f l)) m)
   records n h at =
       rw row (
-      puts-times (width t) (p >>= (λ a. done (f a))) ws rooms
-      (λ m r k e. given rooms (λ r. length r ≡ width t) (p >>= (λ a. done (f a))) (then Any rooms (λ r. length r ≡ width t) p _ (λ a. gives-done Any rooms (λ r. length r ≡ width t) (f a) (wide a))) ws m e)
+      puts-times (width t) (λ i. p i >>= (λ a. done (f a))) ws rooms
+      (λ i m r k e. given rooms (λ r. length r ≡ width t) (p i >>= (λ a. done (f a))) (then Any rooms (λ r. length r ≡ width t) (p i) _ (λ a. gives-done Any rooms (λ r. length r ≡ width t) (f a) (wide a))) ws m e)
       n 0 (zeros N) at (omega (arith, length-replicate N (pos 0), fit n h))
       ∙ ap (λ (o : Outcome (List (List ℤ))). after o (λ rs m. ok (laid (width t) 0 n (zeros N) rs) m)) (times-map p f ws rooms n 0 at)
-      ∙ after-after (run (times n p) ws rooms at) (λ l m. ok (listOf f l) m) (λ rs m. ok (laid (width t) 0 n (zeros N) rs) m)
-      ∙ after-same (run (times n p) ws rooms at) (λ l m. ok (laid (width t) 0 n (zeros N) (listOf f l)) m) (λ l m. ok (padded N (listOf f l)) m)
-      (λ l m e. ap (λ (x : List ℤ). ok x m) (laid-all (width t) N n f l wide (times-long p n ws rooms at e) (fit n h)))
+      ∙ after-after (run (times n 0 p) ws rooms at) (λ l m. ok (listOf f l) m) (λ rs m. ok (laid (width t) 0 n (zeros N) rs) m)
+      ∙ after-same (run (times n 0 p) ws rooms at) (λ l m. ok (laid (width t) 0 n (zeros N) (listOf f l)) m) (λ l m. ok (padded N (listOf f l)) m)
+      (λ l m e. ap (λ (x : List ℤ). ok x m) (laid-all (width t) N n f l wide (times-long p n 0 ws rooms at e) (fit n h)))
       )
 
-  section-is : (c : Counts) (at : ℕ) → run (section t (with c (zeros N))) ws rooms at ≡ after (run (count t (fieldOf t) >>= (λ n. times n p)) ws rooms at) (λ l m. ok (with (counted t c (length l) m) (padded N (listOf f l))) m)
+  section-is : (c : Counts) (at : ℕ) → run (section t (with c (zeros N))) ws rooms at ≡ after (run (count t (fieldOf t) >>= (λ n. times n 0 p)) ws rooms at) (λ l m. ok (with (counted t c (length l) m) (padded N (listOf f l))) m)
   unfolding section run
   section-is c at =
-      same-first ws rooms at (count t (fieldOf t)) (sectionFrom t (with c (zeros N))) (λ n. times n p) _ (λ n m e.
+      same-first ws rooms at (count t (fieldOf t)) (sectionFrom t (with c (zeros N))) (λ n. times n 0 p) _ (λ n m e.
       run-bind (turns n 0 (puts (width t) (rowOf t)) (zeros N)) (ended t c n) ws rooms m
       ∙ ap (λ (o : Outcome (List ℤ)). after o (λ u k. ok (with (counted t c n k) u) k)) (records n (given rooms (λ n. n ≤ rooms t) (count t (fieldOf t)) (gives-count Any rooms t (fieldOf t)) ws at e) m)
-      ∙ after-after (run (times n p) ws rooms m) (λ l k. ok (padded N (listOf f l)) k) (λ u k. ok (with (counted t c n k) u) k)
-      ∙ after-same (run (times n p) ws rooms m) (λ l k. ok (with (counted t c n k) (padded N (listOf f l))) k) (λ l k. ok (with (counted t c (length l) k) (padded N (listOf f l))) k)
-      (λ l k d. ap (λ (i : ℕ). ok (with (counted t c i k) (padded N (listOf f l))) k) (sym (times-long p n ws rooms m d))))
+      ∙ after-after (run (times n 0 p) ws rooms m) (λ l k. ok (padded N (listOf f l)) k) (λ u k. ok (with (counted t c n k) u) k)
+      ∙ after-same (run (times n 0 p) ws rooms m) (λ l k. ok (with (counted t c n k) (padded N (listOf f l))) k) (λ l k. ok (with (counted t c (length l) k) (padded N (listOf f l))) k)
+      (λ l k d. ap (λ (i : ℕ). ok (with (counted t c i k) (padded N (listOf f l))) k) (sym (times-long p n 0 ws rooms m d))))
 
 module _ (rooms : Table → ℕ) (N : ℕ) (ws : List ℤ) (c : Counts) (at : ℕ) where
   pub states-are : ((n : ℕ) → n ≤ rooms States → 8 * n ≤ N) → run (section States (with c (zeros N))) ws rooms at ≡ after (run states ws rooms at) (λ ss m. ok (with (counted States c (length ss) m) (statesForm N (λ s. 0) [] ss)) m)
@@ -68,11 +68,11 @@ module _ (rooms : Table → ℕ) (N : ℕ) (ws : List ℤ) (c : Counts) (at : �
 
   pub modes-are : ((n : ℕ) → n ≤ rooms Modes → 1 * n ≤ N) → run (section Modes (with c (zeros N))) ws rooms at ≡ after (run modes ws rooms at) (λ ms m. ok (with (counted Modes c (length ms) m) (padded N (listOf stateWord ms))) m)
   unfolding modes rowOf
-  modes-are fit = section-is Modes (index 17) stateWord refl (λ a. refl) rooms N fit ws c at
+  modes-are fit = section-is Modes (λ i. index (spot 17 i)) stateWord refl (λ a. refl) rooms N fit ws c at
 
   pub decisions-are : ((n : ℕ) → n ≤ rooms Decisions → 1 * n ≤ N) → run (section Decisions (with c (zeros N))) ws rooms at ≡ after (run decisions ws rooms at) (λ ds m. ok (with (counted Decisions c (length ds) m) (padded N (listOf stateWord ds))) m)
   unfolding decisions rowOf
-  decisions-are fit = section-is Decisions (index 31) stateWord refl (λ a. refl) rooms N fit ws c at
+  decisions-are fit = section-is Decisions (λ i. index (spot 31 i)) stateWord refl (λ a. refl) rooms N fit ws c at
 
   pub actions-are : ((n : ℕ) → n ≤ rooms Actions → 3 * n ≤ N) → run (section Actions (with c (zeros N))) ws rooms at ≡ after (run actions ws rooms at) (λ xs m. ok (with (counted Actions c (length xs) m) (padded N (listOf actionWords xs))) m)
   unfolding actions rowOf

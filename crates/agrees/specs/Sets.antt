@@ -8,7 +8,7 @@ use native.Mathlib.Nat.{zero-add, sub-zero}
 use lib.IntN.{ℤ, pos}
 use lib.ListN.{length, drop, length-append, replicate-append-replicate}
 use lib.Seq.{take-at, drop-at}
-use Rattle.format.specs.Reading.{Table, Ranges, Sets, Outcome, ok, run, times, index, count}
+use Rattle.format.specs.Reading.{Table, Ranges, Sets, Outcome, ok, run, times, index, count, spot}
 use Rattle.format.specs.Sets.{Range, keep}
 use Rattle.format.specs.Sections.{bit, eof, interval, flagged, set, setsFrom, sets}
 use Rattle.format.specs.Links.{each, flat}
@@ -67,12 +67,12 @@ record-behind b i ls k e h =
 
 -- ---- the turns
 
-sets-counted : (rooms : Table → ℕ) (n kept : ℕ) → Given rooms (λ ls. length ls ≡ n) (setsFrom n kept)
+sets-counted : (rooms : Table → ℕ) (n i kept : ℕ) → Given rooms (λ ls. length ls ≡ n) (setsFrom n i kept)
 unfolding setsFrom
-sets-counted rooms zero kept = gives-done Any rooms (λ ls. length ls ≡ 0) [] refl
-sets-counted rooms (suc n) kept =
-    then Any rooms (λ ls. length ls ≡ suc n) (set kept) _ (λ s.
-    gives-bind Any rooms (λ ls. length ls ≡ n) (λ ls. length ls ≡ suc n) (setsFrom n (kept + length s)) _ (sets-counted rooms n (kept + length s)) (λ ls e.
+sets-counted rooms zero i kept = gives-done Any rooms (λ ls. length ls ≡ 0) [] refl
+sets-counted rooms (suc n) i kept =
+    then Any rooms (λ ls. length ls ≡ suc n) (set i kept) _ (λ s.
+    gives-bind Any rooms (λ ls. length ls ≡ n) (λ ls. length ls ≡ suc n) (setsFrom n (i + 1) (kept + length s)) _ (sets-counted rooms n (i + 1) (kept + length s)) (λ ls e.
     gives-done Any rooms (λ ls. length ls ≡ suc n) (s ∷ ls) (ap suc e)))
 
 all-same : {r r′ s s′ : List ℤ} {k k′ : ℕ} → r ≡ r′ → s ≡ s′ → k ≡ k′ → _≡_ {A = Keeping} (record { ranges = r; sets = s; kept = k }) (record { ranges = r′; sets = s′; kept = k′ })
@@ -95,26 +95,26 @@ module _ (a b : ℕ) (ws : List ℤ) (rooms : Table → ℕ) (roomy : 2 * rooms 
       (record-behind b i ls k e h)
       (sym (length-append (flat ls) k) ∙ ap length (sym more))
 
-  one-set : (i : ℕ) (ls : List (List Range)) (at : ℕ) → i ≡ length ls → 2 * i + 2 ≤ b → run (setOne i (holding a b ls)) ws rooms at ≡ after (run (set (length (flat ls))) ws rooms at) (λ s m. ok (holding a b (ls ++ (s ∷ []))) m)
+  one-set : (i : ℕ) (ls : List (List Range)) (at : ℕ) → i ≡ length ls → 2 * i + 2 ≤ b → run (setOne i (holding a b ls)) ws rooms at ≡ after (run (set i (length (flat ls))) ws rooms at) (λ s m. ok (holding a b (ls ++ (s ∷ []))) m)
   unfolding setOne set run
   one-set i ls at e h =
-      same-first ws rooms at (index 19) _ _ _ (λ n m x.
-      same-first ws rooms m (flagged (length (flat ls)) n) _ _ _ (λ f k y.
-      same-first ws rooms k (times n interval) _ _ _ (λ l j z.
-      ap (λ (t : Keeping). ok t j) (one-done i n f ls l e h (given rooms (λ f. length (flat ls) + n + bit f ≤ rooms Ranges) (flagged (length (flat ls)) n) (flagged-room rooms (length (flat ls)) n) ws m y) (times-long interval n ws rooms k z)))))
+      same-first ws rooms at (index (spot 19 i)) _ _ _ (λ n m x.
+      same-first ws rooms m (flagged i (length (flat ls)) n) _ _ _ (λ f k y.
+      same-first ws rooms k (times n 0 (λ j. interval i)) _ _ _ (λ l j z.
+      ap (λ (t : Keeping). ok t j) (one-done i n f ls l e h (given rooms (λ f. length (flat ls) + n + bit f ≤ rooms Ranges) (flagged i (length (flat ls)) n) (flagged-room rooms i (length (flat ls)) n) ws m y) (times-long (λ j. interval i) n 0 ws rooms k z)))))
 
   sets-turns : (n i : ℕ) (ls : List (List Range)) (at : ℕ) → i ≡ length ls → 2 * (i + n) ≤ b
-      → run (turns n i setOne (holding a b ls)) ws rooms at ≡ after (run (setsFrom n (length (flat ls))) ws rooms at) (λ ks m. ok (holding a b (ls ++ ks)) m)
+      → run (turns n i setOne (holding a b ls)) ws rooms at ≡ after (run (setsFrom n i (length (flat ls))) ws rooms at) (λ ks m. ok (holding a b (ls ++ ks)) m)
   unfolding turns setsFrom run
   sets-turns zero i ls at e h = ap (λ (l : List (List Range)). ok (holding a b l) at) (sym (append-nil ls))
   sets-turns (suc n) i ls at e h =
-      laid-first ws rooms at (setOne i (holding a b ls)) (λ t. turns n (i + 1) setOne t) (set (length (flat ls))) _ (λ s m. holding a b (ls ++ (s ∷ []))) _ (one-set i ls at e (omega arith))
+      laid-first ws rooms at (setOne i (holding a b ls)) (λ t. turns n (i + 1) setOne t) (set i (length (flat ls))) _ (λ s m. holding a b (ls ++ (s ∷ []))) _ (one-set i ls at e (omega arith))
       (λ s m x.
       let kept : length (flat (ls ++ (s ∷ []))) ≡ length (flat ls) + length s = ap length (flat-more ls s) ∙ length-append (flat ls) s in
       sets-turns n (i + 1) (ls ++ (s ∷ [])) m (omega (arith, length-append ls (s ∷ []))) (omega arith)
-      ∙ ap (λ (k : ℕ). after (run (setsFrom n k) ws rooms m) (λ ks j. ok (holding a b ((ls ++ (s ∷ [])) ++ ks)) j)) kept
-      ∙ after-same (run (setsFrom n (length (flat ls) + length s)) ws rooms m) _ (λ ks j. ok (holding a b (ls ++ (s ∷ ks))) j) (λ ks j y. ap (λ (l : List (List Range)). ok (holding a b l) j) (append-assoc ls (s ∷ []) ks))
-      ∙ sym (after-map ws rooms m (setsFrom n (length (flat ls) + length s)) (λ ks. s ∷ ks) (λ ks j. ok (holding a b (ls ++ ks)) j)))
+      ∙ ap (λ (k : ℕ). after (run (setsFrom n (i + 1) k) ws rooms m) (λ ks j. ok (holding a b ((ls ++ (s ∷ [])) ++ ks)) j)) kept
+      ∙ after-same (run (setsFrom n (i + 1) (length (flat ls) + length s)) ws rooms m) _ (λ ks j. ok (holding a b (ls ++ (s ∷ ks))) j) (λ ks j y. ap (λ (l : List (List Range)). ok (holding a b l) j) (append-assoc ls (s ∷ []) ks))
+      ∙ sym (after-map ws rooms m (setsFrom n (i + 1) (length (flat ls) + length s)) (λ ks. s ∷ ks) (λ ks j. ok (holding a b (ls ++ ks)) j)))
 
   abbrev ending : Counts → ℕ → Keeping → ℕ → Outcome (Held Sets2)
   ending c n x k = ok (with (setsCounted c n (x .kept) k) (sets2 (x .ranges) (x .sets))) k
@@ -124,11 +124,11 @@ module _ (a b : ℕ) (ws : List ℤ) (rooms : Table → ℕ) (roomy : 2 * rooms 
       ≡ after (run sets ws rooms at) (λ ls m. ok (with (setsCounted c (length ls) (length (flat ls)) m) (sets2 (padded a (listOf rangeWords (flat ls))) (padded b (setRecords 0 ls)))) m)
   unfolding setting sets run
   sets-are fit c at =
-      same-first ws rooms at (count Sets 18) (filling (with c (sets2 (zeros a) (zeros b)))) (λ n. setsFrom n 0) _ (λ n m x.
+      same-first ws rooms at (count Sets 18) (filling (with c (sets2 (zeros a) (zeros b)))) (λ n. setsFrom n 0 0) _ (λ n m x.
       let start : keeping (sets2 (zeros a) (zeros b)) ≡ holding a b [] = all-same (ap zeros (sym (sub-zero a))) (ap zeros (sym (sub-zero b))) refl in
       run-bind (turns n 0 setOne (keeping (sets2 (zeros a) (zeros b)))) (setsEnd c n) ws rooms m
       ∙ ap (λ (t : Keeping). after (run (turns n 0 setOne t) ws rooms m) (ending c n)) start
       ∙ ap (λ (o : Outcome Keeping). after o (ending c n)) (sets-turns n 0 [] m refl (omega (arith, fit n (given rooms (λ n. n ≤ rooms Sets) (count Sets 18) (gives-count Any rooms Sets 18) ws at x))))
-      ∙ after-after (run (setsFrom n 0) ws rooms m) (λ ls k. ok (holding a b ls) k) (ending c n)
-      ∙ after-same (run (setsFrom n 0) ws rooms m) (λ ls k. ending c n (holding a b ls) k) (λ ls k. ending c (length ls) (holding a b ls) k)
-      (λ ls k y. ap (λ (i : ℕ). ending c i (holding a b ls) k) (sym (given rooms (λ ls. length ls ≡ n) (setsFrom n 0) (sets-counted rooms n 0) ws m y))))
+      ∙ after-after (run (setsFrom n 0 0) ws rooms m) (λ ls k. ok (holding a b ls) k) (ending c n)
+      ∙ after-same (run (setsFrom n 0 0) ws rooms m) (λ ls k. ending c n (holding a b ls) k) (λ ls k. ending c (length ls) (holding a b ls) k)
+      (λ ls k y. ap (λ (i : ℕ). ending c i (holding a b ls) k) (sym (given rooms (λ ls. length ls ≡ n) (setsFrom n 0 0) (sets-counted rooms n 0 0) ws m y))))

@@ -7,7 +7,7 @@ use native.Mathlib.Omega.{arith}
 use lib.Dec.{ltb, leb}
 use lib.IntN.{ℤ}
 use lib.ListN.{length, length-append}
-use Rattle.format.specs.Reading.{Table, States, Edges, Ranges, Sets, Rules, Modes, Decisions, Actions, Scratch, Outcome, ok, no, noRoom, Prog, done, run, _>>=_, pick, get}
+use Rattle.format.specs.Reading.{Table, States, Edges, Ranges, Sets, Rules, Modes, Decisions, Actions, Scratch, Outcome, ok, no, noRoom, Prog, done, run, _>>=_, pick, get, spot}
 use Rattle.format.specs.Sets.{Range}
 use Rattle.format.specs.Sections.{State, Rule, Edge, Action, Read, bit, among, version, grammar, states, flags, rules, modes, sets, edges, decisions, actions}
 use Rattle.format.specs.Links.{flat, derived}
@@ -84,7 +84,7 @@ abbrev onToken : ℕ → Tables → ℤ → Prog (Held Tables)
 onToken k t v = begun v >>= onBegin k t
 
 abbrev onGrammar : ℕ → Tables → ℤ → Prog (Held Tables)
-onGrammar k t v = get 3 >>= onToken k t
+onGrammar k t v = get (spot 3 0) >>= onToken k t
 
 abbrev onVersion : ℕ → Tables → ℤ → Prog (Held Tables)
 onVersion k t v = grammar >>= onGrammar k t
@@ -106,7 +106,7 @@ nested k t =
     ∙ bind-bind _ pStates (onOnes k)
     ∙ bind-bind _ (begin t) (onStates k)
     ∙ bind-bind _ begun (onBegin k t)
-    ∙ bind-bind _ (λ v. get 3) (onToken k t)
+    ∙ bind-bind _ (λ v. get (spot 3 0)) (onToken k t)
     ∙ bind-bind version (λ v. grammar) (onGrammar k t)
 
 -- no word is read for the derived edges
@@ -114,7 +114,7 @@ returning-stays : (ss : List State) (k : ℕ) (es : List Edge) (ws : List ℤ) (
 unfolding returning run
 returning-stays ss k es ws rooms n {u} {m} e = go (leb (length es + length (derived ss k es)) (rooms Edges)) e
   where
-    go : (t : Bool) → pick t (ok es n) (no (noRoom 23 n (length es + length (derived ss k es)))) ≡ ok u m → n ≡ m
+    go : (t : Bool) → pick t (ok es n) (no (noRoom (spot 23 0) n (length es + length (derived ss k es)))) ≡ ok u m → n ≡ m
     go true q = cc
     go false q = cc
 
@@ -315,4 +315,4 @@ module _ (lent : Table → ℕ) (ws : List ℤ) where
       ap (λ (p : Prog (Held Tables)). run p ws rooms at) (nested (rooms Edges) (blank lent))
       ∙ same-first ws rooms at version (onVersion (rooms Edges) (blank lent)) _ final (λ a n e.
       same-first ws rooms n grammar (onGrammar (rooms Edges) (blank lent)) _ final (λ b m f.
-      same-first ws rooms m (get 3) (onToken (rooms Edges) (blank lent)) _ final (λ v k g. token-then v k)))
+      same-first ws rooms m (get (spot 3 0)) (onToken (rooms Edges) (blank lent)) _ final (λ v k g. token-then v k)))

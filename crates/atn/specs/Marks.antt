@@ -14,7 +14,7 @@ use Rattle.format.specs.Sections.{State, Edge, size}
 use Rattle.format.specs.Links.{tail}
 use Rattle.laws.specs.Safe.{TailCall, tail-call}
 use Rattle.laws.specs.Own.{Own, tail-own}
-use Rattle.tables.specs.Words.{spot, numberAt, spot-one}
+use Rattle.tables.specs.Words.{numberOf, numberAt, number-one}
 use Rattle.atn.specs.Records.{statesOf, edgesOf, noEdge, edgeAt, Chained, Stopped, Linked, edges-are, linked-of}
 use Rattle.atn.specs.Own.{ruleAt}
 use Rattle.atn.specs.Search.{Idle}
@@ -135,10 +135,10 @@ module _ (ss : List State) (k : ℕ) (es : List Edge) (e : Edge) where
 
 module _ {ss : List State} {es : List Edge} {n m : ℕ} {st ed : List ℤ} (C : Chained ss es n m st ed) {i : ℕ} (h : i < m) where
   kind-number : numberAt ed (8 * i) ≡ edgeAt es i .kind
-  kind-number = ap spot (C .edges i h .kind)
+  kind-number = ap numberOf (C .edges i h .kind)
 
   source-number : numberAt ed (8 * i + 1) ≡ edgeAt es i .source
-  source-number = ap spot (C .edges i h .source)
+  source-number = ap numberOf (C .edges i h .source)
 
   pub source-listed : numberAt ed (8 * i + 1) < n
   source-listed = omega (arith, source-number, C .edges i h .listed)
@@ -162,7 +162,7 @@ module _ {ss : List State} {es : List Edge} {n m k : ℕ} {st ed : List ℤ} {i 
   rule-edge = sym (kind-number (F .chained) (F .listed)) ∙ F .kind-is
 
   follows : f ≡ size (e .q)
-  follows = let w = F .chained .edges i (F .listed) in F .follow-is ∙ ap spot (w .q ∙ w .follow rule-edge)
+  follows = let w = F .chained .edges i (F .listed) in F .follow-is ∙ ap numberOf (w .q ∙ w .follow rule-edge)
 
   -- what a tail call says of the follow state
   tail-says : TailCall ss k es e → (ruleAt ss f ≡ ruleAt ss (e .source)) × Own ss k es f
@@ -172,24 +172,24 @@ module _ {ss : List State} {es : List Edge} {n m k : ℕ} {st ed : List ℤ} {i 
   tail-unlisted l = no-tail ss k es e (λ t. omega (arith, tail-says t .1 .listed, F .chained .all-states))
 
   module _ (l : f < n) (s ours theirs : ℕ) (source-is : s ≡ numberAt ed (8 * i + 1)) (has : ours ≡ numberAt st (8 * s + 1)) (has′ : theirs ≡ numberAt st (8 * f + 1)) where
-    ours-is : ours ≡ spot (ruleAt ss (e .source))
+    ours-is : ours ≡ numberOf (ruleAt ss (e .source))
     ours-is =
         has
         ∙ ap (λ (u : ℕ). numberAt st (8 * u + 1)) (source-is ∙ source-number (F .chained) (F .listed))
-        ∙ ap spot (F .chained .states (e .source) (F .chained .edges i (F .listed) .listed) .rule)
+        ∙ ap numberOf (F .chained .states (e .source) (F .chained .edges i (F .listed) .listed) .rule)
 
-    theirs-is : theirs ≡ spot (ruleAt ss f)
-    theirs-is = has′ ∙ ap spot (F .chained .states f l .rule)
+    theirs-is : theirs ≡ numberOf (ruleAt ss f)
+    theirs-is = has′ ∙ ap numberOf (F .chained .states f l .rule)
 
     pub tail-elsewhere : (ours ≡ theirs → ⊥) → tail ss k es e ≡ false
-    tail-elsewhere n = no-tail ss k es e (λ t. n (ours-is ∙ ap spot (sym (tail-says t .0)) ∙ sym theirs-is))
+    tail-elsewhere n = no-tail ss k es e (λ t. n (ours-is ∙ ap numberOf (sym (tail-says t .0)) ∙ sym theirs-is))
 
     pub tail-decided : ours ≡ theirs → (b : Bool) → b ≡ true ↔ Own ss k es f → b ≡ tail ss k es e
     tail-decided q b d = go b d
       where
         yes : Own ss k es f → TailCall ss k es e
         yes o =
-            let one = spot-one (ruleAt ss (e .source)) (ruleAt ss f) (sym ours-is ∙ q ∙ theirs-is) (omega (arith, F .few-rules, rule-small ss k (ruleAt ss f) (F .few-rules) (o .ends))) in
+            let one = number-one (ruleAt ss (e .source)) (ruleAt ss f) (sym ours-is ∙ q ∙ theirs-is) (omega (arith, F .few-rules, rule-small ss k (ruleAt ss f) (F .few-rules) (o .ends))) in
             tail-own ss k es e .1 (rule-edge, ap (ruleAt ss) (sym follows) ∙ sym one, subst (Own ss k es) follows o)
 
         clash : false ≡ true → ⊥

@@ -14,7 +14,7 @@ use Rattle.format.specs.Sections.{State, Edge}
 use Rattle.format.specs.Reading.{pick}
 use Rattle.format.specs.Links.{first, chain, stateAt, stops, targetOf}
 use Rattle.laws.specs.Chains.{Mem}
-use Rattle.tables.specs.Words.{spot, numberAt, number-same, number-other}
+use Rattle.tables.specs.Words.{numberOf, numberAt, number-same, number-other}
 use Rattle.atn.specs.Own.{ruleAt, stopAt, degree, Leads, Way, stop-own, own-way}
 use Rattle.atn.specs.Search.{colour, left, below, passed, pushed, firstColour, Means, Grey, Above, Fresh, Stacked, Runs, topOf, Running, share, shareOf, total, Stepped, stepped-as, Met, opened, top-below}
 
@@ -78,7 +78,7 @@ module _ (ss : List State) (k : ℕ) (es : List Edge) where
 
   module _ (sc sc′ : List ℤ) (s : ℕ) (b : (t : ℕ) → (t ≡ s → ⊥) → SameAt sc sc′ t) where
     left-same : (p : ℕ) → (p ≡ s → ⊥) → left sc′ p ≡ left sc p
-    left-same p n = ap spot (b p n .lefts)
+    left-same p n = ap numberOf (b p n .lefts)
 
     passed-same : (p : ℕ) → (p ≡ s → ⊥) → passed es sc′ p ≡ passed es sc p
     passed-same p n = ap (λ (u : ℕ). degree es p - u) (left-same p n)
@@ -87,7 +87,7 @@ module _ (ss : List State) (k : ℕ) (es : List Edge) where
     grey-same p n y =
         let e = passed-same p n in
         record {
-          grey = ap spot (b p n .colours) ∙ y .grey;
+          grey = ap numberOf (b p n .colours) ∙ y .grey;
           way = y .way;
           few = omega (arith, y .few, left-same p n);
           upcoming = b p n .edges ∙ y .upcoming ∙ ap (λ (u : ℕ). first (drop u (chain es p))) (sym e);
@@ -105,13 +105,13 @@ module _ (ss : List State) (k : ℕ) (es : List Edge) where
     stacked-same : (l : List ℕ) → Fresh s l → Stacked ss k es sc l → Stacked ss k es sc′ l
     stacked-same [] f st = tt
     stacked-same (p ∷ l) f st =
-        (grey-same p (f .0) (st .0), (st .1 .0, (above-same p l (f .1) (ap spot (b p (f .0) .belows)) (st .1 .1 .0), stacked-same l (f .1) (st .1 .1 .1))))
+        (grey-same p (f .0) (st .0), (st .1 .0, (above-same p l (f .1) (ap numberOf (b p (f .0) .belows)) (st .1 .1 .0), stacked-same l (f .1) (st .1 .1 .1))))
 
     known-same : (l l′ : List ℕ) → ((t : ℕ) → t < length ss → Means ss k es l t (colour sc t)) → ((t : ℕ) → (t ≡ s → ⊥) → Mem t l → Mem t l′)
         → Means ss k es l′ s (colour sc′ s) → (t : ℕ) → t < length ss → Means ss k es l′ t (colour sc′ t)
     known-same l l′ x f m t h =
         ⊎-elim (λ e. subst (λ (u : ℕ). Means ss k es l′ u (colour sc′ u)) (sym e) m)
-        (λ n. subst (λ (c : ℕ). Means ss k es l′ t c) (sym (ap spot (b t n .colours))) (means-map l l′ t (colour sc t) (f t n) (x t h))) (same? t s)
+        (λ n. subst (λ (c : ℕ). Means ss k es l′ t c) (sym (ap numberOf (b t n .colours))) (means-map l l′ t (colour sc t) (f t n) (x t h))) (same? t s)
 
     -- a step that changes the state s
     module _ (h : s < length ss) (size : length sc′ ≡ length sc) (l l′ : List ℕ) (r : Runs ss k es sc l) where
@@ -120,8 +120,8 @@ module _ (ss : List State) (k : ℕ) (es : List Edge) where
       change f m c st top e w =
           record {
             size = size;
-            kept = λ t q z y. ⊎-elim (λ u. c (ap (colour sc′) (sym u) ∙ y)) (λ u. z (sym (ap spot (b t u .colours)) ∙ y)) (same? t s);
-            less = total-less (shareOf es sc) (shareOf es sc′) (length ss) s h (λ t u. λ i. share (spot (b t u .colours i)) (degree es t) (spot (b t u .lefts i))) w;
+            kept = λ t q z y. ⊎-elim (λ u. c (ap (colour sc′) (sym u) ∙ y)) (λ u. z (sym (ap numberOf (b t u .colours)) ∙ y)) (same? t s);
+            less = total-less (shareOf es sc) (shareOf es sc′) (length ss) s h (λ t u. λ i. share (numberOf (b t u .colours i)) (degree es t) (numberOf (b t u .lefts i))) w;
             runs = record { stack = l′; tops = e; runs = record { known = known-same l l′ (r .known) f m; stacked = st; long = omega (arith, r .long) } };
           }
 
@@ -218,7 +218,7 @@ module _ (ss : List State) (k : ℕ) (es : List Edge) where
       getD-set-other a3 (4 * t + 3) (4 * t + 1) (pos top) (pos 0) (λ q. omega arith) ∙ getD-set-other a2 (4 * t + 2) (4 * t + 1) z (pos 0) (λ q. omega arith)
       ∙ getD-set-same a1 (4 * t + 1) w (pos 0) (omega arith) in
       let n : left sc′ t ≡ degree es t =
-      number-other a3 (4 * t + 3) (4 * t + 2) (pos top) (λ q. omega arith) ∙ number-same a2 (4 * t + 2) z (omega arith) ∙ ap spot ez in
+      number-other a3 (4 * t + 3) (4 * t + 2) (pos top) (λ q. omega arith) ∙ number-same a2 (4 * t + 2) z (omega arith) ∙ ap numberOf ez in
       let u : below sc′ t ≡ top = number-same a3 (4 * t + 3) (pos top) (omega arith) in
       let p : passed es sc′ t ≡ 0 = omega arith in
       let f : Fresh t l = fresh-of sc t l (r .stacked) (λ q. omega arith) in
@@ -272,7 +272,7 @@ module _ (ss : List State) (k : ℕ) (es : List Edge) where
       → (top < length ss → (0 < left sc top) × (targetOf es top (passed es sc top) ≡ t))
       → getD st (8 * t + 5) (pos 0) ≡ first (chain es t) → getD st (8 * t + 7) (pos 0) ≡ pos (degree es t)
       → Stepped ss k es sc sc′ top′ × (colour sc′ t ≡ 0 → ⊥)
-  meets {st} {sc} {sc′} {t} {top} {top′} m x h white link ew ez = go (firstColour ss k (numberAt st (8 * t + 7)) t) refl (first-tells t (numberAt st (8 * t + 7)) h (ap spot ez))
+  meets {st} {sc} {sc′} {t} {top} {top′} m x h white link ew ez = go (firstColour ss k (numberAt st (8 * t + 7)) t) refl (first-tells t (numberAt st (8 * t + 7)) h (ap numberOf ez))
     where
       go : (c : ℕ) → firstColour ss k (numberAt st (8 * t + 7)) t ≡ c → Tells t c → Stepped ss k es sc sc′ top′ × (colour sc′ t ≡ 0 → ⊥)
       go zero e way =

@@ -17,7 +17,7 @@ use Rattle.format.specs.Links.{first, chain, next, leaving, names, stateAt, sto
 use Rattle.laws.specs.Safe.{and-true}
 use Rattle.laws.specs.Own.{Own, same-true}
 use Rattle.laws.specs.Chains.{Mem, next-in}
-use Rattle.tables.specs.Words.{spot, numberAt, spot-word, spot-one, names-number}
+use Rattle.tables.specs.Words.{numberOf, numberAt, number-word, number-one, names-number}
 use Rattle.atn.specs.Records.{noEdge, edgeAt, stateIn, statesOf, Chained, Stopped, rows-long, state-at}
 use Rattle.atn.specs.Chains.{leaving-few, chain-long, Linking, linking}
 use Rattle.atn.specs.Own.{ruleAt, stopAt, degree, Leads, same-self}
@@ -70,7 +70,7 @@ pub record Leaving (ss : List State) (es : List Edge) (n m : ℕ) (st ed : List 
 
 module _ {ss : List State} {es : List Edge} {n m : ℕ} {st ed : List ℤ} {s e kind : ℕ} (L : Leaving ss es n m st ed s e kind) where
   typed : kind ≡ edgeAt es e .kind
-  typed = L .kind-is ∙ ap spot (L .chained .edges e (L .edge-listed) .kind)
+  typed = L .kind-is ∙ ap numberOf (L .chained .edges e (L .edge-listed) .kind)
 
   none-is : (Plain ss s (edgeAt es e) → ⊥) → n ≡ plainTarget ss s (edgeAt es e)
   none-is f = sym (plain-none ss s (edgeAt es e) f ∙ L .chained .all-states)
@@ -80,20 +80,20 @@ module _ {ss : List State} {es : List Edge} {n m : ℕ} {st ed : List ℤ} {s e 
 
   module _ (t : ℕ) (leads : t ≡ numberAt ed (8 * e + 2)) where
     leads-to : t ≡ edgeAt es e .target
-    leads-to = leads ∙ ap spot (L .chained .edges e (L .edge-listed) .target)
+    leads-to = leads ∙ ap numberOf (L .chained .edges e (L .edge-listed) .target)
 
     pub target-off : n ≤ t → n ≡ plainTarget ss s (edgeAt es e)
     target-off q = none-is (λ p. omega (arith, leads-to, p .listed, L .chained .all-states))
 
     module _ (h : t < n) (ours theirs : ℕ) (has : ours ≡ numberAt st (8 * s + 1)) (has′ : theirs ≡ numberAt st (8 * t + 1)) where
-      ours-is : ours ≡ spot (ruleAt ss s)
-      ours-is = has ∙ ap spot (L .chained .states s (L .listed) .rule)
+      ours-is : ours ≡ numberOf (ruleAt ss s)
+      ours-is = has ∙ ap numberOf (L .chained .states s (L .listed) .rule)
 
-      theirs-is : theirs ≡ spot (ruleAt ss (edgeAt es e .target))
-      theirs-is = has′ ∙ ap spot (L .chained .states t h .rule) ∙ ap (λ (u : ℕ). spot (ruleAt ss u)) leads-to
+      theirs-is : theirs ≡ numberOf (ruleAt ss (edgeAt es e .target))
+      theirs-is = has′ ∙ ap numberOf (L .chained .states t h .rule) ∙ ap (λ (u : ℕ). numberOf (ruleAt ss u)) leads-to
 
       pub rule-off : (theirs ≡ ours → ⊥) → n ≡ plainTarget ss s (edgeAt es e)
-      rule-off f = none-is (λ p. f (theirs-is ∙ ap spot (p .ruled) ∙ sym ours-is))
+      rule-off f = none-is (λ p. f (theirs-is ∙ ap numberOf (p .ruled) ∙ sym ours-is))
 
       pub plain-on : kind ≡ 1 → theirs ≡ ours → numberAt st (8 * s + 1) < 2 ^ 31 → t ≡ plainTarget ss s (edgeAt es e)
       plain-on q r small =
@@ -101,14 +101,14 @@ module _ {ss : List State} {es : List Edge} {n m : ℕ} {st ed : List ℤ} {s e 
           ∙ sym (plain-some ss s (edgeAt es e) (record {
             free = sym typed ∙ q;
             listed = omega (arith, leads-to, h, L .chained .all-states);
-            ruled = spot-one (ruleAt ss (edgeAt es e .target)) (ruleAt ss s) (sym theirs-is ∙ r ∙ ours-is) (omega (arith, has, ours-is, small));
+            ruled = number-one (ruleAt ss (edgeAt es e .target)) (ruleAt ss s) (sym theirs-is ∙ r ∙ ours-is) (omega (arith, has, ours-is, small));
           }))
 
 -- ---- a visit
 
 -- a rule that exists has a small number
-pub rule-small : (ss : List State) (k : ℕ) (R : ℤ) → k < 2 ^ 31 → stops ss k R ≡ true → spot R < k
-rule-small ss k R h e = ltb-true (spot R) k (sym (names-number k R (omega arith)) ∙ and-true (names k R) _ e .0)
+pub rule-small : (ss : List State) (k : ℕ) (R : ℤ) → k < 2 ^ 31 → stops ss k R ≡ true → numberOf R < k
+rule-small ss k R h e = ltb-true (numberOf R) k (sym (names-number k R (omega arith)) ∙ and-true (names k R) _ e .0)
 
 -- The state s is on top of the stack.
 pub record Ready (ss : List State) (es : List Edge) (n m k : ℕ) (st ed ru sc : List ℤ) (s : ℕ) : Type 0 where
@@ -125,7 +125,7 @@ module _ {ss : List State} {es : List Edge} {n m k : ℕ} {st ed ru sc : List �
   whole = opened ss k es sc (A .runs) inside
 
   pub rule-number : numberAt st (8 * s + 1) < 2 ^ 31
-  rule-number = omega (arith, A .stopped .few-rules, ap spot (A .chained .states s (A .listed) .rule), rule-small ss k (ruleAt ss s) (A .stopped .few-rules) (whole .1 .stacked .0 .way .ends))
+  rule-number = omega (arith, A .stopped .few-rules, ap numberOf (A .chained .states s (A .listed) .rule), rule-small ss k (ruleAt ss s) (A .stopped .few-rules) (whole .1 .stacked .0 .way .ends))
 
   pub visit-done : left sc s ≡ 0 → Stepped ss k es sc (set sc (4 * s) (pos 2)) (below sc s)
   visit-done e = settled ss k es (A .runs) inside 2 (omega arith) (λ l. ended-own ss k es sc (whole .1) e)
@@ -157,7 +157,7 @@ module _ {ss : List State} {es : List Edge} {n m k : ℕ} {st ed ru sc : List �
   linked-next = linking es s (passed es sc s) unpassed
 
   number-is : e ≡ getD (chain es s) (passed es sc s) 0
-  number-is = N .next-is ∙ ap spot (r .stacked .0 .upcoming ∙ linked-next .word-is)
+  number-is = N .next-is ∙ ap numberOf (r .stacked .0 .upcoming ∙ linked-next .word-is)
 
   pub next-listed : e < m
   next-listed = omega (arith, number-is, linked-next .listed, N .ready .chained .all-edges)
@@ -244,7 +244,7 @@ module _ {ss : List State} {es : List Edge} {n m k : ℕ} {st ed ru sc : List �
 -- ---- first colours, by the words that the code reads
 
 -- a word is 7 exactly if its number is
-seven : (z : ℤ) → eqb (size z) 7 ≡ eqb (spot z) 7
+seven : (z : ℤ) → eqb (size z) 7 ≡ eqb (numberOf z) 7
 seven (pos n) = refl
 seven (negsuc n) = refl
 
@@ -263,7 +263,7 @@ module _ {n k : ℕ} {st ru : List ℤ} {s R : ℕ} (A : Ruled n k st ru s R) wh
   rule-word = ap (λ (x : State). x .rule) (state-at n st s (A .listed))
 
   exists-is : names k (ruleAt ss s) ≡ ltb R k
-  exists-is = names-number k (ruleAt ss s) (omega (arith, A .stopped .few-rules)) ∙ ap (λ (u : ℕ). ltb u k) (ap spot rule-word ∙ sym (A .rule-is))
+  exists-is = names-number k (ruleAt ss s) (omega (arith, A .stopped .few-rules)) ∙ ap (λ (u : ℕ). ltb u k) (ap numberOf rule-word ∙ sym (A .rule-is))
 
   pub first-ruleless : k ≤ R → (c : ℕ) → firstColour ss k c s ≡ 3
   unfolding firstColour
@@ -271,11 +271,11 @@ module _ {n k : ℕ} {st ru : List ℤ} {s R : ℕ} (A : Ruled n k st ru s R) wh
 
   module _ (q : R < k) (z : ℕ) (stop-is : z ≡ numberAt ru (3 * R + 1)) where
     stop-word : stopOf ss (ruleAt ss s) ≡ getD ru (3 * R + 1) (pos 0)
-    stop-word = ap (stopOf ss) (rule-word ∙ spot-word (getD st (8 * s + 1) (pos 0)) R (sym (A .rule-is)) (omega (arith, A .stopped .few-rules))) ∙ sym (A .stopped .stops-at R q)
+    stop-word = ap (stopOf ss) (rule-word ∙ number-word (getD st (8 * s + 1) (pos 0)) R (sym (A .rule-is)) (omega (arith, A .stopped .few-rules))) ∙ sym (A .stopped .stops-at R q)
 
     stops-is : stops ss k (ruleAt ss s) ≡ ltb z n
     stops-is =
-        let a = ap spot stop-word ∙ sym stop-is in
+        let a = ap numberOf stop-word ∙ sym stop-is in
         let b = rows-long (stateIn st) 0 n in
         rw (exists-is, lt-ltb R k q) (names-number (length ss) (stopOf ss (ruleAt ss s)) (omega (arith, A .few-states)) ∙ (λ i. ltb (a i) (b i)))
 
@@ -286,7 +286,7 @@ module _ {n k : ℕ} {st ru : List ℤ} {s R : ℕ} (A : Ruled n k st ru s R) wh
     pub first-by : z < n → (c : ℕ) → firstColour ss k c s ≡ pick (eqb z s) 2 (pick (eqb (numberAt st (8 * s)) 7) 3 (pick (eqb c 0) 3 0))
     unfolding firstColour
     first-by l c =
-        let a : stopAt ss s ≡ z = ap size (stop-word ∙ spot-word (getD ru (3 * R + 1) (pos 0)) z (sym stop-is) (omega (arith, A .few-states))) in
+        let a : stopAt ss s ≡ z = ap size (stop-word ∙ number-word (getD ru (3 * R + 1) (pos 0)) z (sym stop-is) (omega (arith, A .few-states))) in
         let b : eqb (stateAt ss s .kind) 7 ≡ eqb (numberAt st (8 * s)) 7 = ap (λ (x : State). eqb (x .kind) 7) (state-at n st s (A .listed)) ∙ seven (getD st (8 * s) (pos 0)) in
         rw (stops-is, lt-ltb z n l, a, b) refl
 
@@ -299,7 +299,7 @@ module _ {ss : List State} {es : List Edge} {n m k : ℕ} {st ed : List ℤ} (C 
       record {
         stacked = tt;
         long = omega (arith, C .all-states, length-replicate l (pos 0));
-        known = λ s b. subst (λ (z : ℤ). Means ss k es [] s (spot z)) (sym (getD-replicate l (4 * s) (pos 0) (pos 0) (omega (arith, C .all-states)))) tt;
+        known = λ s b. subst (λ (z : ℤ). Means ss k es [] s (numberOf z)) (sym (getD-replicate l (4 * s) (pos 0) (pos 0) (omega (arith, C .all-states)))) tt;
       }
 
   module _ {sc : List ℤ} where

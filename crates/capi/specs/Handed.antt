@@ -9,6 +9,7 @@ use lib.ListN.{length, take, drop, set}
 use Rattle.format.specs.Tables.{zeros}
 use Rattle.format.specs.Answers.{Said}
 use Rattle.format.specs.declared.Counts.{Counts}
+use Rattle.format.specs.declared.Refusal.{Refusal}
 use Rattle.format.specs.declared.Decoded.{Decoded}
 use Rattle.format.specs.declared.Decoded.the-variants as D
 use Rattle.format.specs.declared.SetPart.{SetPart}
@@ -101,13 +102,16 @@ pub record SmallCounts (c : Counts) : Type 0 where
   pub decisions : c .decisions < 2 ^ 63
   pub actions : c .actions < 2 ^ 63
 
+abbrev pub SmallRefusal : Refusal → Type 0
+SmallRefusal q = (q .place < 2 ^ 63) × (q .«record» < 2 ^ 63)
+
 abbrev pub Small : Decoded → Type 0
 Small (D.Accepted c) = SmallCounts c
-Small (D.Refused q) = q .place < 2 ^ 63
+Small (D.Refused q) = SmallRefusal q
 
 abbrev pub SmallWritten : Written → Type 0
 SmallWritten (W.Wrote n) = n < 2 ^ 63
-SmallWritten (W.Refused q) = q .place < 2 ^ 63
+SmallWritten (W.Refused q) = SmallRefusal q
 
 -- a word that is not there
 pub set-beyond : (l : List ℤ) (i : ℕ) (v : ℤ) → length l ≤ i → l ≡ set l i v

@@ -5,9 +5,9 @@ ghost use mathlib.Core.List.{[], _∷_};
 ghost use Prim.Native.Nat.{_<_, _^_};
 ghost use lib.IntN.{pos};
 ghost use lib.ListN.{set};
-ghost use Rattle.format.specs.Answers.{said, ofDecoded, ofWritten, ofNthEdge, ofMatching, ofSetPart};
+ghost use Rattle.format.specs.Answers.{said, ofRefusal, ofDecoded, ofWritten, ofNthEdge, ofMatching, ofSetPart};
 ghost use Rattle.format.specs.declared.Decoded.the-variants as D;
-ghost use Rattle.capi.specs.Handed.{handed, Hands, Small, SmallWritten, SmallCounts, SmallPart};
+ghost use Rattle.capi.specs.Handed.{handed, Hands, Small, SmallWritten, SmallRefusal, SmallCounts, SmallPart};
 use format::Counts;
 use format::Decoded;
 use format::Denial;
@@ -111,12 +111,13 @@ pub fn set_part(p: SetPart, answer: &mut [i64]) -> u32
 
 // A decode's or a writing's refusal.
 fn refused(r: Refusal, answer: &mut [i64]) -> u32
-    requires { ⌜ r .place < 2 ^ 63 ⌝ }
-    ensures { λ n. ⌜ Hands (said (r .number) (pos (r .number) ∷ pos (r .field) ∷ pos (r .place) ∷ r .value ∷ [])) n (now (answer .entry)) (now (answer .exit)) ⌝ }
+    requires { ⌜ SmallRefusal r ⌝ }
+    ensures { λ n. ⌜ Hands (ofRefusal r) n (now (answer .entry)) (now (answer .exit)) ⌝ }
 {
     two(signed(r.number as usize), signed(r.field as usize), answer);
     put(answer, 2, signed(r.place));
     put(answer, 3, r.value);
+    put(answer, 4, signed(r.record));
     r.number
 }
 

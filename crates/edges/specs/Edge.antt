@@ -3,7 +3,7 @@ use mathlib.Core.Path.{_≡_}
 use mathlib.Core.List.{List}
 use Prim.Native.Nat.{ℕ, _+_, _<_, _^_}
 use lib.IntN.{ℤ}
-use Rattle.format.specs.Reading.{Outcome, ok, no, Prog, done, _>>=_, _>>_, known, listed, get, index}
+use Rattle.format.specs.Reading.{Outcome, ok, no, Prog, done, _>>=_, _>>_, spot, known, listed, get, index}
 use Rattle.format.specs.Sections.{Edge, meaning, testA, testB}
 use Rattle.laws.specs.Running.{after}
 use Rattle.inplace.specs.Rows.{edgeRow}
@@ -19,23 +19,23 @@ abbrev pub raw : ℕ → ℕ → ℤ → ℤ → ℤ → ℤ → RawEdge
 raw s t w a b c = record { source = s; target = t; kind = w; a = a; b = b; c = c }
 
 -- From word 28 on, and from word 26 on.
-unfoldable pub restOf : ℕ → ℕ → ℤ → ℤ → Prog RawEdge
-restOf s t w a = do
-  b ← get 28
-  c ← get 29
+unfoldable pub restOf : ℕ → ℕ → ℕ → ℤ → ℤ → Prog RawEdge
+restOf i s t w a = do
+  b ← get (spot 28 i)
+  c ← get (spot 29 i)
   done (raw s t w a b c)
 
-unfoldable pub typeOn : ℕ → ℕ → Prog RawEdge
-typeOn s t = do
-  w ← get 26
-  a ← get 27
-  restOf s t w a
+unfoldable pub typeOn : ℕ → ℕ → ℕ → Prog RawEdge
+typeOn i s t = do
+  w ← get (spot 26 i)
+  a ← get (spot 27 i)
+  restOf i s t w a
 
-unfoldable pub sixWords : Prog RawEdge
-sixWords = do
-  s ← index 24
-  t ← index 25
-  typeOn s t
+unfoldable pub sixWords : ℕ → Prog RawEdge
+sixWords i = do
+  s ← index (spot 24 i)
+  t ← index (spot 25 i)
+  typeOn i s t
 
 abbrev pub outcomeRaw : RawStep → Outcome RawEdge
 outcomeRaw (R.Got e n) = ok e n
@@ -49,15 +49,15 @@ Sound place (R.Refused r) = Unit {0}
 -- ---- "then 8, then a negative or 9, then b, then 10"; word 24 stands at the place
 
 -- Of an edge whose type k is known.
-unfoldable pub checked : ℕ → ℕ → ℕ → ℕ → RawEdge → Prog Edge
-checked nstates nsets place k e = do
-  testA nsets k (place + 3) (e .a)
-  testB k (place + 4) (e .b)
-  listed 10 nstates 24 place (e .source)
+unfoldable pub checked : ℕ → ℕ → ℕ → ℕ → ℕ → RawEdge → Prog Edge
+checked i nstates nsets place k e = do
+  testA i nsets k (place + 3) (e .a)
+  testB i k (place + 4) (e .b)
+  listed 10 nstates (spot 24 i) place (e .source)
   done (meaning k (e .source) (e .target) (e .a) (e .b) (e .c))
 
-unfoldable pub tested : ℕ → ℕ → ℕ → RawEdge → Prog Edge
-tested nstates nsets place e = known 8 1 10 26 (place + 2) (e .kind) >>= (λ k. checked nstates nsets place k e)
+unfoldable pub tested : ℕ → ℕ → ℕ → ℕ → RawEdge → Prog Edge
+tested i nstates nsets place e = known 8 1 10 (spot 26 i) (place + 2) (e .kind) >>= (λ k. checked i nstates nsets place k e)
 
 -- ---- the eight words, plain and not chained yet, with the source by which the edge is chained
 

@@ -8,7 +8,8 @@ use lib.Dec.{ltb}
 use lib.IntN.{ℤ, pos, negsuc}
 use lib.ListN.{length, getD}
 use borrow.Author.Tests.{ltb-true}
-use Rattle.format.specs.Reading.{Table, Outcome, ok, no, Prog, done, refuse, word, run, ended, refusal, pick, _>>=_, natural, listed, get, index}
+use Rattle.format.specs.declared.Spot.{Spot}
+use Rattle.format.specs.Reading.{Table, Outcome, ok, no, Prog, done, refuse, word, run, ended, refusal, pick, _>>=_, spot, natural, listed, get, index}
 use Rattle.format.specs.Sections.{Edge, meaning, testA, testB, edge}
 use Rattle.laws.specs.Reading.{clash}
 use Rattle.laws.specs.Running.{after, run-bind, ok-then, no-then}
@@ -24,7 +25,7 @@ use Rattle.edges.specs.Edge.{raw, restOf, typeOn, sixWords, checked, tes
 
 -- ---- an index is one word
 
-module _ (f : ℕ) (ws : List ℤ) (room : Table → ℕ) (at : ℕ) where
+module _ (f : Spot) (ws : List ℤ) (room : Table → ℕ) (at : ℕ) where
   word-next : {A : Type 0} (k : ℕ → ℤ → Prog A) → ((v : ℤ) (m : ℕ) (a : A) (n : ℕ) → ok a n ≡ run (k at v) ws room m → n ≡ m)
       → {a : A} {n : ℕ} → ok a n ≡ run (word f k) ws room at → n ≡ at + 1
   unfolding run
@@ -45,7 +46,7 @@ module _ (f : ℕ) (ws : List ℤ) (room : Table → ℕ) (at : ℕ) where
 
 -- ---- the six words, each by its own place
 
-module _ (f : ℕ) (ws : List ℤ) (room : Table → ℕ) (at : ℕ) where
+module _ (f : Spot) (ws : List ℤ) (room : Table → ℕ) (at : ℕ) where
   word-there : {A : Type 0} (k : ℕ → ℤ → Prog A) {a : A} {n : ℕ} → ok a n ≡ run (word f k) ws room at → at < length ws
   unfolding run
   word-there {A} k {a} {n} e = go (ltb at (length ws)) refl e
@@ -70,48 +71,48 @@ module _ (f : ℕ) (ws : List ℤ) (room : Table → ℕ) (at : ℕ) where
   word-at : (k : ℕ) → at + k < length ws → ok (getD ws (at + k) (pos 0)) (at + (k + 1)) ≡ run (get f) ws room (at + k)
   word-at k h = let q : at + k + 1 ≡ at + (k + 1) = omega arith in rw q at (get-ok f ws room (at + k) h)
 
-module _ (ws : List ℤ) (room : Table → ℕ) (at : ℕ) where
+module _ (i : ℕ) (ws : List ℤ) (room : Table → ℕ) (at : ℕ) where
   abbrev nth : ℕ → ℤ
   nth k = getD ws (at + k) (pos 0)
 
   pub six-ok : {s t : ℕ} → at + 6 ≤ length ws → signOf (getD ws at (pos 0)) ≡ Natural s → signOf (nth 1) ≡ Natural t
-      → ok (raw s t (nth 2) (nth 3) (nth 4) (nth 5)) (at + 6) ≡ run sixWords ws room at
+      → ok (raw s t (nth 2) (nth 3) (nth 4) (nth 5)) (at + 6) ≡ run (sixWords i) ws room at
   unfolding run sixWords typeOn restOf
   six-ok {s} {t} h p q =
       let q1 : at + 1 + 1 ≡ at + 2 = omega arith in
-      sym (ok-then (index 24) _ ws room at (index-got 24 ws room at (omega arith) p)
-      ∙ ok-then (index 25) _ ws room (at + 1) (rw q1 at (index-got 25 ws room (at + 1) (omega arith) q))
-      ∙ ok-then (get 26) _ ws room (at + 2) (word-at 26 ws room at 2 (omega arith))
-      ∙ ok-then (get 27) _ ws room (at + 3) (word-at 27 ws room at 3 (omega arith))
-      ∙ ok-then (get 28) _ ws room (at + 4) (word-at 28 ws room at 4 (omega arith))
-      ∙ ok-then (get 29) _ ws room (at + 5) (word-at 29 ws room at 5 (omega arith)))
+      sym (ok-then (index (spot 24 i)) _ ws room at (index-got (spot 24 i) ws room at (omega arith) p)
+      ∙ ok-then (index (spot 25 i)) _ ws room (at + 1) (rw q1 at (index-got (spot 25 i) ws room (at + 1) (omega arith) q))
+      ∙ ok-then (get (spot 26 i)) _ ws room (at + 2) (word-at (spot 26 i) ws room at 2 (omega arith))
+      ∙ ok-then (get (spot 27 i)) _ ws room (at + 3) (word-at (spot 27 i) ws room at 3 (omega arith))
+      ∙ ok-then (get (spot 28 i)) _ ws room (at + 4) (word-at (spot 28 i) ws room at 4 (omega arith))
+      ∙ ok-then (get (spot 29 i)) _ ws room (at + 5) (word-at (spot 29 i) ws room at 5 (omega arith)))
 
   -- the first of them, or the second, is negative
-  pub six-first : at < length ws → signOf (getD ws at (pos 0)) ≡ Negative → no (refusal 2 24 at (getD ws at (pos 0))) ≡ run sixWords ws room at
+  pub six-first : at < length ws → signOf (getD ws at (pos 0)) ≡ Negative → no (refusal 2 (spot 24 i) at (getD ws at (pos 0))) ≡ run (sixWords i) ws room at
   unfolding sixWords
-  six-first h p = sym (no-then (index 24) _ ws room at (index-below 24 ws room at h p))
+  six-first h p = sym (no-then (index (spot 24 i)) _ ws room at (index-below (spot 24 i) ws room at h p))
 
-  pub six-second : {s : ℕ} → at + 1 < length ws → signOf (getD ws at (pos 0)) ≡ Natural s → signOf (nth 1) ≡ Negative → no (refusal 2 25 (at + 1) (nth 1)) ≡ run sixWords ws room at
+  pub six-second : {s : ℕ} → at + 1 < length ws → signOf (getD ws at (pos 0)) ≡ Natural s → signOf (nth 1) ≡ Negative → no (refusal 2 (spot 25 i) (at + 1) (nth 1)) ≡ run (sixWords i) ws room at
   unfolding sixWords
-  six-second h p q = sym (ok-then (index 24) _ ws room at (index-got 24 ws room at (omega arith) p) ∙ no-then (index 25) _ ws room (at + 1) (index-below 25 ws room (at + 1) h q))
+  six-second h p q = sym (ok-then (index (spot 24 i)) _ ws room at (index-got (spot 24 i) ws room at (omega arith) p) ∙ no-then (index (spot 25 i)) _ ws room (at + 1) (index-below (spot 25 i) ws room (at + 1) h q))
 
   -- fewer than four words are left for the type and the arguments
-  pub type-ended : (s t : ℕ) → at ≤ length ws → length ws < at + 4 → no (ended (26 + (length ws - at)) (length ws)) ≡ run (typeOn s t) ws room at
+  pub type-ended : (s t : ℕ) → at ≤ length ws → length ws < at + 4 → no (ended (spot (26 + (length ws - at)) i) (length ws)) ≡ run (typeOn i s t) ws room at
   unfolding typeOn restOf
   type-ended s t l h = by (length ws - at) refl
     where
-      by : (d : ℕ) → length ws - at ≡ d → no (ended (26 + d) (length ws)) ≡ run (typeOn s t) ws room at
-      by zero e = sym (no-then (get 26) _ ws room at (get-no 26 ws room at (omega arith)))
-      by (suc zero) e = sym (ok-then (get 26) _ ws room at (get-ok 26 ws room at (omega arith)) ∙ no-then (get 27) _ ws room (at + 1) (get-no 27 ws room (at + 1) (omega arith)))
+      by : (d : ℕ) → length ws - at ≡ d → no (ended (spot (26 + d) i) (length ws)) ≡ run (typeOn i s t) ws room at
+      by zero e = sym (no-then (get (spot 26 i)) _ ws room at (get-no (spot 26 i) ws room at (omega arith)))
+      by (suc zero) e = sym (ok-then (get (spot 26 i)) _ ws room at (get-ok (spot 26 i) ws room at (omega arith)) ∙ no-then (get (spot 27 i)) _ ws room (at + 1) (get-no (spot 27 i) ws room (at + 1) (omega arith)))
       by (suc (suc zero)) e =
-          sym (ok-then (get 26) _ ws room at (get-ok 26 ws room at (omega arith))
-          ∙ ok-then (get 27) _ ws room (at + 1) (word-at 27 ws room at 1 (omega arith))
-          ∙ no-then (get 28) _ ws room (at + 2) (get-no 28 ws room (at + 2) (omega arith)))
+          sym (ok-then (get (spot 26 i)) _ ws room at (get-ok (spot 26 i) ws room at (omega arith))
+          ∙ ok-then (get (spot 27 i)) _ ws room (at + 1) (word-at (spot 27 i) ws room at 1 (omega arith))
+          ∙ no-then (get (spot 28 i)) _ ws room (at + 2) (get-no (spot 28 i) ws room (at + 2) (omega arith)))
       by (suc (suc (suc zero))) e =
-          sym (ok-then (get 26) _ ws room at (get-ok 26 ws room at (omega arith))
-          ∙ ok-then (get 27) _ ws room (at + 1) (word-at 27 ws room at 1 (omega arith))
-          ∙ ok-then (get 28) _ ws room (at + 2) (word-at 28 ws room at 2 (omega arith))
-          ∙ no-then (get 29) _ ws room (at + 3) (get-no 29 ws room (at + 3) (omega arith)))
+          sym (ok-then (get (spot 26 i)) _ ws room at (get-ok (spot 26 i) ws room at (omega arith))
+          ∙ ok-then (get (spot 27 i)) _ ws room (at + 1) (word-at (spot 27 i) ws room at 1 (omega arith))
+          ∙ ok-then (get (spot 28 i)) _ ws room (at + 2) (word-at (spot 28 i) ws room at 2 (omega arith))
+          ∙ no-then (get (spot 29 i)) _ ws room (at + 3) (get-no (spot 29 i) ws room (at + 3) (omega arith)))
       by (suc (suc (suc (suc d)))) e = absurd (omega arith)
 
 -- ---- six words, and their tests, are `edge`
@@ -135,17 +136,17 @@ module _ (ws : List ℤ) (room : Table → ℕ) where
       go (ok a n) = sym (run-bind (j a) k ws room n)
       go (no r) = refl
 
-pub edge-is : (nstates nsets : ℕ) (ws : List ℤ) (room : Table → ℕ) (at : ℕ) → run (edge nstates nsets) ws room at ≡ run (sixWords >>= tested nstates nsets at) ws room at
+pub edge-is : (i nstates nsets : ℕ) (ws : List ℤ) (room : Table → ℕ) (at : ℕ) → run (edge nstates nsets i) ws room at ≡ run (sixWords i >>= tested i nstates nsets at) ws room at
 unfolding run _>>=_ get edge sixWords typeOn restOf tested checked
-edge-is nstates nsets ws room at =
-    let rest = tested nstates nsets at in
-    sym (run-assoc ws room (index 24) (λ s. index 25 >>= typeOn s) rest at
-    ∙ run-cong ws room (index 24) (λ s. (index 25 >>= typeOn s) >>= rest) (λ s. index 25 >>= (λ t. typeOn s t >>= rest)) at
-    (λ s n. run-assoc ws room (index 25) (typeOn s) rest n))
+edge-is i nstates nsets ws room at =
+    let rest = tested i nstates nsets at in
+    sym (run-assoc ws room (index (spot 24 i)) (λ s. index (spot 25 i) >>= typeOn i s) rest at
+    ∙ run-cong ws room (index (spot 24 i)) (λ s. (index (spot 25 i) >>= typeOn i s) >>= rest) (λ s. index (spot 25 i) >>= (λ t. typeOn i s t >>= rest)) at
+    (λ s n. run-assoc ws room (index (spot 25 i)) (typeOn i s) rest n))
 
 -- ---- an edge that passed its tests
 
-listed-same : (number end f p k : ℕ) (ws : List ℤ) (room : Table → ℕ) (at : ℕ) {i n : ℕ} → ok i n ≡ run (listed number end f p k) ws room at → i ≡ k
+listed-same : (number end : ℕ) (f : Spot) (p k : ℕ) (ws : List ℤ) (room : Table → ℕ) (at : ℕ) {i n : ℕ} → ok i n ≡ run (listed number end f p k) ws room at → i ≡ k
 unfolding run
 listed-same number end f p k ws room at {i} {n} e = go (ltb k end) e
   where
@@ -153,14 +154,14 @@ listed-same number end f p k ws room at {i} {n} e = go (ltb k end) e
     go true q = cc
     go false q = clash q
 
-module _ (nstates nsets place k : ℕ) (e : RawEdge) (ws : List ℤ) (room : Table → ℕ) (at : ℕ) where
-  pub checked-ok : {i n j m s o : ℕ} → k < 11 → ok i n ≡ run (testA nsets k (place + 3) (e .a)) ws room at
-      → ok j m ≡ run (testB k (place + 4) (e .b)) ws room n → ok s o ≡ run (listed 10 nstates 24 place (e .source)) ws room m
-      → ok (row s (edgeRow 0 (meaning k (e .source) (e .target) (e .a) (e .b) (e .c)))) o ≡ rowed (run (checked nstates nsets place k e) ws room at)
+module _ (i nstates nsets place k : ℕ) (e : RawEdge) (ws : List ℤ) (room : Table → ℕ) (at : ℕ) where
+  pub checked-ok : {x n j m s o : ℕ} → k < 11 → ok x n ≡ run (testA i nsets k (place + 3) (e .a)) ws room at
+      → ok j m ≡ run (testB i k (place + 4) (e .b)) ws room n → ok s o ≡ run (listed 10 nstates (spot 24 i) place (e .source)) ws room m
+      → ok (row s (edgeRow 0 (meaning k (e .source) (e .target) (e .a) (e .b) (e .c)))) o ≡ rowed (run (checked i nstates nsets place k e) ws room at)
   unfolding run checked
-  checked-ok {i} {n} {j} {m} {s} {o} h fa fb fs =
-      let x = meaning k (e .source) (e .target) (e .a) (e .b) (e .c) in
-      ap (λ (z : ℕ). ok (row z (edgeRow 0 x)) o) (listed-same 10 nstates 24 place (e .source) ws room m fs ∙ sym (meaning-source (e .source) (e .target) (e .a) (e .b) (e .c) k h))
+  checked-ok {x} {n} {j} {m} {s} {o} h fa fb fs =
+      let y = meaning k (e .source) (e .target) (e .a) (e .b) (e .c) in
+      ap (λ (z : ℕ). ok (row z (edgeRow 0 y)) o) (listed-same 10 nstates (spot 24 i) place (e .source) ws room m fs ∙ sym (meaning-source (e .source) (e .target) (e .a) (e .b) (e .c) k h))
       ∙ sym (ap rowed (ok-then _ _ ws room at fa ∙ ok-then _ _ ws room n fb ∙ ok-then _ _ ws room m fs))
 
 -- ---- its record and its chain are `edgeOne`
@@ -169,9 +170,9 @@ module _ (nstates nsets i : ℕ) (st ed ws : List ℤ) (room : Table → ℕ) (a
   abbrev linkedRow : Outcome Row → Outcome Net
   linkedRow o = after o (λ r n. ok (chained i (r .source) (net st (put 8 i (r .words) ed))) n)
 
-  pub one-is : {o : Outcome Row} → o ≡ rowed (run (edge nstates nsets) ws room at) → linkedRow o ≡ run (edgeOne nstates nsets i (net st ed)) ws room at
+  pub one-is : {o : Outcome Row} → o ≡ rowed (run (edge nstates nsets i) ws room at) → linkedRow o ≡ run (edgeOne nstates nsets i (net st ed)) ws room at
   unfolding run edgeOne
-  one-is e = ap linkedRow e ∙ go (run (edge nstates nsets) ws room at) ∙ sym (run-bind (edge nstates nsets) (λ e. done (linked i 0 e (net st ed))) ws room at)
+  one-is e = ap linkedRow e ∙ go (run (edge nstates nsets i) ws room at) ∙ sym (run-bind (edge nstates nsets i) (λ e. done (linked i 0 e (net st ed))) ws room at)
     where
       go : (o : Outcome Edge) → linkedRow (rowed o) ≡ after o (λ e n. ok (linked i 0 e (net st ed)) n)
       go (ok e n) = refl

@@ -15,11 +15,13 @@ use crate::reading::RawEdge;
 use crate::reading::RawStep;
 use crate::tests;
 use crate::transition;
+use format::Spot;
 use words::Index;
 
 // From the tests of a on: the type is known. The answer is the source.
 fn check_edge(
     part: &mut [i32],
+    record: usize,
     kind: usize,
     e: RawEdge,
     place: usize,
@@ -28,12 +30,13 @@ fn check_edge(
     nsets: usize,
 ) -> Index
     requires { ⌜ (length (now part) ≡ 8) × (kind < 11) × (e .source < 2 ^ 31) × (e .target < 2 ^ 31) × (place + 6 < 2 ^ 64) ⌝ }
-    ensures says { λ r. ⌜ ((ws : List ℤ) (rooms : Table → ℕ) → written r (now (part .exit)) ≡ rowed (run (checked nstates nsets place kind e) ws rooms next)) ⌝ }
+    ensures says { λ r. ⌜ ((ws : List ℤ) (rooms : Table → ℕ) → written r (now (part .exit)) ≡ rowed (run (checked «record» nstates nsets place kind e) ws rooms next)) ⌝ }
     ensures bounded { λ r. ⌜ Below nstates r ⌝ }
 {
-    match tests::test_a(kind, e.a, nsets, place + 3, next) {
-        Index::Got(_, then) => match tests::test_b(kind, e.b, place + 4, then) {
-            Index::Got(_, last) => match words::listed(e.source, 10, nstates, 24, place, last) {
+    let spot = Spot { field: 24, record };
+    match tests::test_a(record, kind, e.a, nsets, place + 3, next) {
+        Index::Got(_, then) => match tests::test_b(record, kind, e.b, place + 4, then) {
+            Index::Got(_, last) => match words::listed(e.source, 10, nstates, spot, place, last) {
                 Index::Got(source, end) => {
                     transition::decode_transition(part, kind, e.source, e.target, e.a, e.b, e.c);
                     Index::Got(source, end)
@@ -46,23 +49,26 @@ fn check_edge(
     }
 }
 
-// One edge into its eight words. The answer is its source.
+// The i-th edge into its eight words. The answer is its source.
 pub fn deserialize_edge(
     part: &mut [i32],
+    record: usize,
     words: &[i32],
     at: usize,
     nstates: usize,
     nsets: usize,
 ) -> Index
     requires { ⌜ length (now part) ≡ 8 ⌝ }
-    ensures says { λ r. ⌜ ((rooms : Table → ℕ) → written r (now (part .exit)) ≡ rowed (run (edge nstates nsets) (now (words .entry)) rooms at)) ⌝ }
+    ensures says { λ r. ⌜ ((rooms : Table → ℕ) → written r (now (part .exit)) ≡ rowed (run (edge nstates nsets «record») (now (words .entry)) rooms at)) ⌝ }
     ensures bounded { λ r. ⌜ Below nstates r ⌝ }
 {
-    match reading::read_edge(words, at) {
-        RawStep::Got(e, next) => match words::known(e.kind, 8, 1, 10, 26, at + 2, next) {
-            Index::Got(kind, on) => check_edge(part, kind, e, at, on, nstates, nsets),
-            Index::Refused(r) => Index::Refused(r),
-        },
+    match reading::read_edge(record, words, at) {
+        RawStep::Got(e, next) => {
+            match words::known(e.kind, 8, 1, 10, Spot { field: 26, record }, at + 2, next) {
+                Index::Got(kind, on) => check_edge(part, record, kind, e, at, on, nstates, nsets),
+                Index::Refused(r) => Index::Refused(r),
+            }
+        }
         RawStep::Refused(r) => Index::Refused(r),
     }
 }

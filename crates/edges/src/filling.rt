@@ -31,7 +31,7 @@ fn edge_one(
 {
     let from = 8 * i;
     let to = from + 8;
-    match edge::deserialize_edge(&mut edges[from..to], words, at, nstates, nsets) {
+    match edge::deserialize_edge(&mut edges[from..to], i, words, at, nstates, nsets) {
         Index::Got(source, next) => {
             links::chain_edge(states, edges, i, source);
             Step::Next(next)

@@ -7,6 +7,7 @@ ghost use lib.ListN.{length};
 ghost use Rattle.format.specs.Reading.{Table, no, run};
 ghost use Rattle.edges.specs.Edge.{outcomeRaw, sixWords, Sound};
 use format::Refusal;
+use format::Spot;
 use words::Index;
 use words::Sign;
 
@@ -28,15 +29,20 @@ pub enum RawStep {
 
 // Why the edge is refused where fewer than six words are left: by its first two words, if they are there, or as ended at the first
 // word that is not.
-fn refuse_edge(words: &[i32], at: usize) -> Refusal
+fn refuse_edge(record: usize, words: &[i32], at: usize) -> Refusal
     requires { ⌜ length (now words) < at + 6 ⌝ }
-    ensures { λ r. ⌜ ((rooms : Table → ℕ) → no r ≡ run sixWords (now (words .entry)) rooms at) ⌝ }
+    ensures { λ r. ⌜ ((rooms : Table → ℕ) → no r ≡ run (sixWords «record») (now (words .entry)) rooms at) ⌝ }
 {
-    match words::read_usize(words, at, 24) {
-        Index::Got(_, second) => match words::read_usize(words, second, 25) {
+    match words::read_usize(words, at, Spot { field: 24, record }) {
+        Index::Got(_, second) => match words::read_usize(
+            words,
+            second,
+            Spot { field: 25, record },
+        ) {
             Index::Got(_, _) => Refusal {
                 number: 1,
                 field: 24 + (words.len() - at) as u32,
+                record,
                 place: words.len(),
                 value: 0,
             },
@@ -47,9 +53,9 @@ fn refuse_edge(words: &[i32], at: usize) -> Refusal
 }
 
 // Six words that are left, each by its own place: so the place of the next edge does not wait for what was read.
-fn take_edge(words: &[i32], at: usize) -> RawStep
+fn take_edge(record: usize, words: &[i32], at: usize) -> RawStep
     requires { ⌜ at + 6 ≤ length (now words) ⌝ }
-    ensures says { λ r. ⌜ ((rooms : Table → ℕ) → outcomeRaw r ≡ run sixWords (now (words .entry)) rooms at) ⌝ }
+    ensures says { λ r. ⌜ ((rooms : Table → ℕ) → outcomeRaw r ≡ run (sixWords «record») (now (words .entry)) rooms at) ⌝ }
     ensures sound { λ r. ⌜ Sound (at + 6) r ⌝ }
 {
     match words::sign_of(words[at]) {
@@ -65,21 +71,31 @@ fn take_edge(words: &[i32], at: usize) -> RawStep
                 },
                 at + 6,
             ),
-            Sign::Negative => RawStep::Refused(words::refused(2, 25, at + 1, words[at + 1])),
+            Sign::Negative => RawStep::Refused(words::refused(
+                2,
+                Spot { field: 25, record },
+                at + 1,
+                words[at + 1],
+            )),
         },
-        Sign::Negative => RawStep::Refused(words::refused(2, 24, at, words[at])),
+        Sign::Negative => RawStep::Refused(words::refused(
+            2,
+            Spot { field: 24, record },
+            at,
+            words[at],
+        )),
     }
 }
 
-// The six words of an edge.
-pub fn read_edge(words: &[i32], at: usize) -> RawStep
-    ensures says { λ r. ⌜ ((rooms : Table → ℕ) → outcomeRaw r ≡ run sixWords (now (words .entry)) rooms at) ⌝ }
+// The six words of the i-th edge.
+pub fn read_edge(record: usize, words: &[i32], at: usize) -> RawStep
+    ensures says { λ r. ⌜ ((rooms : Table → ℕ) → outcomeRaw r ≡ run (sixWords «record») (now (words .entry)) rooms at) ⌝ }
     ensures sound { λ r. ⌜ Sound (at + 6) r ⌝ }
 {
     if at < words.len() {
         if words.len() - at >= 6 {
-            return take_edge(words, at);
+            return take_edge(record, words, at);
         }
     }
-    RawStep::Refused(refuse_edge(words, at))
+    RawStep::Refused(refuse_edge(record, words, at))
 }

@@ -8,6 +8,7 @@ ghost use lib.IntN.{ℤ};
 ghost use Rattle.format.specs.Reading.{Table, run};
 ghost use Rattle.format.specs.Sections.{among, testA, testB};
 ghost use Rattle.words.specs.Answers.{outcomeIx};
+use format::Spot;
 use words::Index;
 
 // Whether a is a set's number.
@@ -32,27 +33,28 @@ fn has_index(kind: usize) -> bool
 }
 
 // "a negative or 9"
-pub fn test_a(kind: usize, a: i32, nsets: usize, place: usize, next: usize) -> Index
-    ensures { λ r. ⌜ ((ws : List ℤ) (rooms : Table → ℕ) → outcomeIx r ≡ run (testA nsets kind place a) ws rooms next) ⌝ }
+pub fn test_a(record: usize, kind: usize, a: i32, nsets: usize, place: usize, next: usize) -> Index
+    ensures { λ r. ⌜ ((ws : List ℤ) (rooms : Table → ℕ) → outcomeIx r ≡ run (testA «record» nsets kind place a) ws rooms next) ⌝ }
 {
+    let spot = Spot { field: 27, record };
     if has_set(kind) {
-        return match words::read_index(a, 27, place, next) {
-            Index::Got(set, on) => words::listed(set, 9, nsets, 27, place, on),
+        return match words::read_index(a, spot, place, next) {
+            Index::Got(set, on) => words::listed(set, 9, nsets, spot, place, on),
             Index::Refused(r) => Index::Refused(r),
         };
     }
     if has_index(kind) {
-        return words::read_index(a, 27, place, next);
+        return words::read_index(a, spot, place, next);
     }
     Index::Got(0, next)
 }
 
 // "then b"; any b is good in type 6.
-pub fn test_b(kind: usize, b: i32, place: usize, next: usize) -> Index
-    ensures { λ r. ⌜ ((ws : List ℤ) (rooms : Table → ℕ) → outcomeIx r ≡ run (testB kind place b) ws rooms next) ⌝ }
+pub fn test_b(record: usize, kind: usize, b: i32, place: usize, next: usize) -> Index
+    ensures { λ r. ⌜ ((ws : List ℤ) (rooms : Table → ℕ) → outcomeIx r ≡ run (testB «record» kind place b) ws rooms next) ⌝ }
 {
     if has_two(kind) {
-        return words::read_index(b, 28, place, next);
+        return words::read_index(b, Spot { field: 28, record }, place, next);
     }
     Index::Got(0, next)
 }

@@ -3,6 +3,7 @@ use mathlib.Core.List.{List, [], _∷_}
 use Prim.Native.Nat.{ℕ}
 use lib.IntN.{ℤ, pos}
 use Rattle.format.specs.Sections.{bit}
+use Rattle.format.specs.declared.Refusal.{Refusal}
 use Rattle.format.specs.declared.Decoded.{Decoded}
 use Rattle.format.specs.declared.Decoded.the-variants as D
 use Rattle.format.specs.declared.Written.{Written}
@@ -22,17 +23,21 @@ pub record Said : Type 0 where
 abbrev pub said : ℕ → List ℤ → Said
 said n vs = record { number = n; values = vs }
 
--- Words read, max token type, states, edges, derived edges, ranges, sets, rules, modes, decisions, actions; or number, field, place, value.
+-- Number, field, place, value, record.
+abbrev pub ofRefusal : Refusal → Said
+ofRefusal r = said (r .number) (pos (r .number) ∷ pos (r .field) ∷ pos (r .place) ∷ r .value ∷ pos (r .«record») ∷ [])
+
+-- Words read, max token type, states, edges, derived edges, ranges, sets, rules, modes, decisions, actions; or a refusal's values.
 abbrev pub ofDecoded : Decoded → Said
 ofDecoded (D.Accepted c) =
     said 0 (pos (c .words) ∷ c .token ∷ pos (c .states) ∷ pos (c .edges) ∷ pos (c .derived) ∷ pos (c .ranges) ∷ pos (c .sets)
     ∷ pos (c .rules) ∷ pos (c .modes) ∷ pos (c .decisions) ∷ pos (c .actions) ∷ [])
-ofDecoded (D.Refused r) = said (r .number) (pos (r .number) ∷ pos (r .field) ∷ pos (r .place) ∷ r .value ∷ [])
+ofDecoded (D.Refused r) = ofRefusal r
 
--- The number of words; or number, field, place, value.
+-- The number of words; or a refusal's values.
 abbrev pub ofWritten : Written → Said
 ofWritten (W.Wrote n) = said 0 (pos n ∷ [])
-ofWritten (W.Refused r) = said (r .number) (pos (r .number) ∷ pos (r .field) ∷ pos (r .place) ∷ r .value ∷ [])
+ofWritten (W.Refused r) = ofRefusal r
 
 -- The edge's number; or number and value.
 abbrev pub ofNthEdge : NthEdge → Said

@@ -4,7 +4,7 @@ use mathlib.Core.Path.{_≡_, refl}
 use mathlib.Core.List.{List, [], _∷_, _++_}
 use Prim.Native.Nat.{ℕ}
 use lib.IntN.{ℤ, pos}
-use Rattle.format.specs.Reading.{Table, States, Edges, Ranges, Sets, Rules, Modes, Decisions, Actions, Scratch, refusal, run, times, get, index, count, _>>=_}
+use Rattle.format.specs.Reading.{Table, States, Edges, Ranges, Sets, Rules, Modes, Decisions, Actions, Scratch, refusal, spot, run, times, get, index, count, _>>=_}
 use Rattle.format.specs.Sets.{add, keepOnto}
 use Rattle.format.specs.Sections.{none, version, grammar, linked, following, state, states, named, flags, rule, rules, modes, interval, flagged, set, setsFrom, sets, testA, testB, edge, edges, decisions, action, actions}
 use Rattle.format.specs.Links.{derived, decides, safe, tail}
@@ -35,9 +35,9 @@ abbrev accepted : ℕ → ℕ → ℕ → ℕ → ℕ → ℕ → ℕ → ℕ �
 accepted w t st ed dd ra se ru mo de ac =
     D.Accepted (record { words = w; token = pos t; states = st; edges = ed; derived = dd; ranges = ra; sets = se; rules = ru; modes = mo; decisions = de; actions = ac })
 
--- Number, field, place, value.
-abbrev refused : ℕ → ℕ → ℕ → ℕ → Decoded
-refused n f p v = D.Refused (refusal n f p (pos v))
+-- Number, field, record, place, value.
+abbrev refused : ℕ → ℕ → ℕ → ℕ → ℕ → Decoded
+refused n f i p v = D.Refused (refusal n (spot f i) p (pos v))
 
 abbrev nineOf : {A : Type 0} → (Table → A) → List A
 nineOf f = f States ∷ f Edges ∷ f Ranges ∷ f Sets ∷ f Rules ∷ f Modes ∷ f Decisions ∷ f Actions ∷ f Scratch ∷ []
@@ -64,6 +64,10 @@ withSet set n kept ranges =
     ∷ (0 ▸ 0 ▸ 0 ▸ 0 ▸ [])
     ∷ [])
 
+-- Two records and more in every table, and these words behind the header; refused at the second record.
+abbrev second : List ℤ → Decoded → Case
+second ws d = denied (nine 24 24 6 6 9 3 3 9 12) (4 ▸ 0 ▸ 0 ▸ ws) d
+
 -- The whole case's words.
 abbrev whole : List ℤ
 whole =
@@ -76,7 +80,7 @@ cases =
     -- P1 empty input: 1, field 1, place 0
     denied little
     []
-    (refused 1 1 0 0)
+    (refused 1 1 0 0 0)
     ∷
     -- P2 `4 0 9` and nine zeros: accepted, 12 words
     case little
@@ -87,17 +91,17 @@ cases =
     -- P3 the first 11 of those: 1, field 32, place 11
     denied little
     (4 ▸ 0 ▸ 9 ▸ 0 ▸ 0 ▸ 0 ▸ 0 ▸ 0 ▸ 0 ▸ 0 ▸ 0 ▸ [])
-    (refused 1 32 11 0)
+    (refused 1 32 0 11 0)
     ∷
     -- P4 `3`: 3
     denied little
     (3 ▸ [])
-    (refused 3 1 0 3)
+    (refused 3 1 0 0 3)
     ∷
     -- P5 `4 1`: 4
     denied little
     (4 ▸ 1 ▸ [])
-    (refused 4 2 1 1)
+    (refused 4 2 0 1 1)
     ∷
     -- P6 range (9,3) keeps 3..9
     withSet (1 ▸ 0 ▸ 9 ▸ 3 ▸ []) 24 1 (3 ▸ 9 ▸ 0 ▸ 0 ▸ 0 ▸ 0 ▸ 0 ▸ [])
@@ -162,7 +166,7 @@ cases =
     -- With room for one range it is refused: 12, field 20, place 21, value 2
     denied (nine 32 24 2 2 3 1 1 3 16)
     whole
-    (refused 12 20 21 2)
+    (refused 12 20 0 21 2)
     ∷
     -- "Using a rule edge's p for the return edge": p is 0, the target's rule 1, and the return edge leaves the stop of rule 1
     case (nine 40 16 0 0 6 0 0 0 20)
@@ -238,6 +242,52 @@ cases =
     ∷ []
     ∷ (0 ▸ 0 ▸ 0 ▸ 0 ▸ [])
     ∷ [])
+    ∷
+    -- "refusals 1 to 12 carry it: state, rule, set, edge or action number"; a state whose type is unknown, and one that ends
+    second (2 ▸ 1 ▸ 0 ▸ 13 ▸ []) (refused 6 5 1 6 13)
+    ∷
+    second (2 ▸ 1 ▸ 0 ▸ 12 ▸ 0 ▸ []) (refused 1 7 1 8 0)
+    ∷
+    -- "for fields 10, 12, 17 and 31 the place in their list": the second of each
+    second (1 ▸ 1 ▸ 0 ▸ 2 ▸ 0 ▸ 1 ▸ []) (refused 7 10 1 8 1)
+    ∷
+    second (1 ▸ 1 ▸ 0 ▸ 0 ▸ 2 ▸ 0 ▸ 1 ▸ []) (refused 7 12 1 9 1)
+    ∷
+    second (0 ▸ 0 ▸ 0 ▸ 0 ▸ 2 ▸ 0 ▸ []) (refused 1 17 1 9 0)
+    ∷
+    second (0 ▸ 0 ▸ 0 ▸ 0 ▸ 0 ▸ 0 ▸ 0 ▸ 2 ▸ 0 ▸ []) (refused 1 31 1 12 0)
+    ∷
+    second (0 ▸ 0 ▸ 0 ▸ 2 ▸ 0 ▸ 0 ▸ 0 ▸ []) (refused 1 15 1 10 0)
+    ∷
+    -- "Fields 19 to 22 carry their set": its count, its flag, its room, the stop of its first interval, the start of its third
+    second (0 ▸ 0 ▸ 0 ▸ 0 ▸ 0 ▸ 2 ▸ 0 ▸ 0 ▸ []) (refused 1 19 1 11 0)
+    ∷
+    second (0 ▸ 0 ▸ 0 ▸ 0 ▸ 0 ▸ 2 ▸ 0 ▸ 0 ▸ 2 ▸ []) (refused 1 20 1 12 0)
+    ∷
+    second (0 ▸ 0 ▸ 0 ▸ 0 ▸ 0 ▸ 2 ▸ 0 ▸ 0 ▸ 3 ▸ 1 ▸ []) (refused 12 20 1 12 4)
+    ∷
+    second (0 ▸ 0 ▸ 0 ▸ 0 ▸ 0 ▸ 2 ▸ 0 ▸ 0 ▸ 3 ▸ 0 ▸ 5 ▸ []) (refused 1 22 1 14 0)
+    ∷
+    second (0 ▸ 0 ▸ 0 ▸ 0 ▸ 0 ▸ 2 ▸ 0 ▸ 0 ▸ 3 ▸ 0 ▸ 5 ▸ 6 ▸ 7 ▸ 8 ▸ []) (refused 1 21 1 17 0)
+    ∷
+    -- an edge whose type is unknown, whose set is not listed, whose source is not listed; an action
+    second (1 ▸ 1 ▸ 0 ▸ 0 ▸ 0 ▸ 0 ▸ 0 ▸ 0 ▸ 2 ▸ 0 ▸ 0 ▸ 1 ▸ 0 ▸ 0 ▸ 0 ▸ 0 ▸ 0 ▸ 11 ▸ 0 ▸ 0 ▸ 0 ▸ []) (refused 8 26 1 20 11)
+    ∷
+    second (1 ▸ 1 ▸ 0 ▸ 0 ▸ 0 ▸ 0 ▸ 0 ▸ 0 ▸ 2 ▸ 0 ▸ 0 ▸ 1 ▸ 0 ▸ 0 ▸ 0 ▸ 0 ▸ 0 ▸ 7 ▸ 3 ▸ 0 ▸ 0 ▸ []) (refused 9 27 1 21 3)
+    ∷
+    second (1 ▸ 1 ▸ 0 ▸ 0 ▸ 0 ▸ 0 ▸ 0 ▸ 0 ▸ 2 ▸ 0 ▸ 0 ▸ 1 ▸ 0 ▸ 0 ▸ 0 ▸ 1 ▸ 0 ▸ 1 ▸ 0 ▸ 0 ▸ 0 ▸ []) (refused 10 24 1 18 1)
+    ∷
+    second (0 ▸ 0 ▸ 0 ▸ 0 ▸ 0 ▸ 0 ▸ 0 ▸ 0 ▸ 2 ▸ 6 ▸ 0 ▸ 0 ▸ 8 ▸ 0 ▸ 0 ▸ []) (refused 11 33 1 15 8)
+    ∷
+    -- "the header, the other counts and the derived-edge refusal carry 0": the counts behind two states, and behind two rules
+    second (2 ▸ 1 ▸ 0 ▸ 1 ▸ 0 ▸ []) (refused 1 9 0 8 0)
+    ∷
+    second (0 ▸ 0 ▸ 0 ▸ 2 ▸ 0 ▸ 0 ▸ 0 ▸ 0 ▸ []) (refused 1 16 0 11 0)
+    ∷
+    -- and no room for a derived edge behind two edges
+    denied (nine 24 16 0 0 3 0 0 0 12)
+    (4 ▸ 0 ▸ 0 ▸ 3 ▸ 2 ▸ 0 ▸ 7 ▸ 0 ▸ 1 ▸ 0 ▸ 0 ▸ 0 ▸ 1 ▸ 0 ▸ 1 ▸ 0 ▸ 0 ▸ 2 ▸ 0 ▸ 1 ▸ 3 ▸ 0 ▸ 0 ▸ 0 ▸ 2 ▸ 2 ▸ 1 ▸ 0 ▸ 0 ▸ 0 ▸ 0 ▸ 0 ▸ [])
+    (refused 12 23 0 30 3)
     ∷ []
 
 -- What a decode makes of a case.

@@ -3,7 +3,7 @@ use mathlib.Core.List.{List}
 use Prim.Native.Nat.{ℕ, _+_, _-_}
 use lib.IntN.{ℤ}
 use lib.ListN.{length}
-use Rattle.format.specs.Reading.{Table, Edges, Outcome, ok, no, Prog, done, need, here, run, get, _>>=_, _>>_}
+use Rattle.format.specs.Reading.{Table, Edges, Outcome, ok, no, Prog, done, need, here, run, spot, get, _>>=_, _>>_}
 use Rattle.format.specs.Sections.{Edge, State, Read, version, grammar, states, flags, rules, modes, sets, edges, decisions, actions}
 use Rattle.format.specs.Links.{derived}
 use Rattle.format.specs.Tables.{room, table, zeros, countsOf}
@@ -12,14 +12,14 @@ use Rattle.format.specs.declared.Decoded.the-variants as D
 
 -- "derived edges after the last edge, all at once (field 23, place of the next word, value all edges)"
 unfoldable pub returning : List State → ℕ → List Edge → Prog (List Edge)
-returning ss n es = here (λ p. need Edges (length es + length (derived ss n es)) 23 p (done es))
+returning ss n es = here (λ p. need Edges (length es + length (derived ss n es)) (spot 23 0) p (done es))
 
 -- "Fields, in word order". "Words after the last action are not read."
 unfoldable pub dialect : Prog Read
 dialect = do
   version
   grammar
-  token ← get 3
+  token ← get (spot 3 0)
   ss ← states
   ones ← flags (length ss) 9
   twos ← flags (length ss) 11

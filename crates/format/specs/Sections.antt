@@ -5,7 +5,8 @@ use Prim.Native.Nat.{ℕ, zero, suc, _+_}
 use lib.Dec.{eqb}
 use lib.IntN.{ℤ, pos, negsuc}
 use lib.ListN.{length, getD}
-use Rattle.format.specs.Reading.{States, Edges, Ranges, Sets, Rules, Modes, Decisions, Actions, Prog, done, word, need, here, _>>=_, times, pick, fail, natural, known, listed, get, index, count, _>>_}
+use Rattle.format.specs.declared.Spot.{Spot}
+use Rattle.format.specs.Reading.{States, Edges, Ranges, Sets, Rules, Modes, Decisions, Actions, Prog, done, word, need, here, _>>=_, times, spot, pick, fail, natural, known, listed, get, index, count, _>>_}
 use Rattle.format.specs.Sets.{Range, range, keep}
 
 -- ---- what was read: the states, the states that fields 10 and 12 name, the rules, the modes, what each set keeps,
@@ -77,11 +78,11 @@ among k (n ∷ l) = eqb k n || among k l
 
 -- "3: version not 4"
 unfoldable pub version : Prog ℤ
-version = word 1 (λ p v. pick (same v (pos 4)) (done v) (fail 3 1 p v))
+version = word (spot 1 0) (λ p v. pick (same v (pos 4)) (done v) (fail 3 (spot 1 0) p v))
 
 -- "4, 5: grammar type 1; other than 0 and 1"
 unfoldable pub grammar : Prog ℤ
-grammar = word 2 (λ p v. pick (same v (pos 0)) (done v) (pick (same v (pos 1)) (fail 4 2 p v) (fail 5 2 p v)))
+grammar = word (spot 2 0) (λ p v. pick (same v (pos 0)) (done v) (pick (same v (pos 1)) (fail 4 (spot 2 0) p v) (fail 5 (spot 2 0) p v)))
 
 -- ---- fields 4 to 8: states
 
@@ -94,85 +95,86 @@ abbrev pub stateOf : ℕ → ℤ → ℤ → ℤ → State
 stateOf k rule end back = record { kind = k; rule = rule; end = end; back = back }
 
 -- "7 loop back, 8 block end": 7 after type 12. "The links are not checked against the state list."
-unfoldable pub linked : ℕ → ℤ → Prog State
-linked k rule =
+unfoldable pub linked : ℕ → ℕ → ℤ → Prog State
+linked i k rule =
     pick (eqb k 12)
-    (index 7 >>= (λ b. done (stateOf k rule none (pos b))))
-    (index 8 >>= (λ e. done (stateOf k rule (pos e) none)))
+    (index (spot 7 i) >>= (λ b. done (stateOf k rule none (pos b))))
+    (index (spot 8 i) >>= (λ e. done (stateOf k rule (pos e) none)))
 
 -- "Any negative rule index is none."
-unfoldable pub following : ℕ → ℕ → Prog State
-following zero k = done (stateOf k none none none)
-following (suc zero) k = get 6 >>= (λ v. done (stateOf k (orNone v) none none))
-following (suc (suc n)) k = get 6 >>= (λ v. linked k (orNone v))
+unfoldable pub following : ℕ → ℕ → ℕ → Prog State
+following i zero k = done (stateOf k none none none)
+following i (suc zero) k = get (spot 6 i) >>= (λ v. done (stateOf k (orNone v) none none))
+following i (suc (suc n)) k = get (spot 6 i) >>= (λ v. linked i k (orNone v))
 
 -- "State types 0 to 12." "6: unknown state type"
-unfoldable pub state : Prog State
-state = do
-  k ← word 5 (known 6 0 12 5)
-  following (getD follows k 0) k
+unfoldable pub state : ℕ → Prog State
+state i = do
+  k ← word (spot 5 i) (known 6 0 12 (spot 5 i))
+  following i (getD follows k 0) k
 
 unfoldable pub states : Prog (List State)
-states = count States 4 >>= (λ n. times n state)
+states = count States 4 >>= (λ n. times n 0 state)
 
 -- ---- fields 9 to 12: flags
 
 -- "Fields 10 and 12 set flags 1 and 2 on the named state, of any type, repeats allowed."
 -- "7: field 10 or 12 not a listed state"; n states are listed.
-unfoldable pub named : ℕ → ℕ → Prog ℕ
+unfoldable pub named : ℕ → Spot → Prog ℕ
 named n f = word f (λ p v. natural f p v >>= listed 7 n f p)
 
 unfoldable pub flags : ℕ → ℕ → Prog (List ℕ)
-flags n f = index f >>= (λ k. times k (named n (f + 1)))
+flags n f = index (spot f 0) >>= (λ k. times k 0 (λ i. named n (spot (f + 1) i)))
 
 -- ---- fields 13 to 17: rules and modes
 
-unfoldable pub rule : Prog Rule
-rule = do
-  s ← index 14
-  t ← get 15
+unfoldable pub rule : ℕ → Prog Rule
+rule i = do
+  s ← index (spot 14 i)
+  t ← get (spot 15 i)
   done (record { start = s; token = t })
 
 unfoldable pub rules : Prog (List Rule)
-rules = count Rules 13 >>= (λ n. times n rule)
+rules = count Rules 13 >>= (λ n. times n 0 rule)
 
 unfoldable pub modes : Prog (List ℕ)
-modes = count Modes 16 >>= (λ n. times n (index 17))
+modes = count Modes 16 >>= (λ n. times n 0 (λ i. index (spot 17 i)))
 
 -- ---- fields 18 to 22: sets
 
-unfoldable pub interval : Prog Range
-interval = do
-  s ← get 21
-  e ← get 22
+-- "Fields 19 to 22 carry their set": i.
+unfoldable pub interval : ℕ → Prog Range
+interval i = do
+  s ← get (spot 21 i)
+  e ← get (spot 22 i)
   done (range s e)
 
 -- "ranges after field 20, needing kept ranges + intervals + 1 if flagged (field 20)"
-unfoldable pub flagged : ℕ → ℕ → Prog Bool
-flagged kept n = word 20 (λ p v. need Ranges (kept + n + bit (raised v)) 20 p (done (raised v)))
+unfoldable pub flagged : ℕ → ℕ → ℕ → Prog Bool
+flagged i kept n = word (spot 20 i) (λ p v. need Ranges (kept + n + bit (raised v)) (spot 20 i) p (done (raised v)))
 
 -- "The EOF flag, if not 0, adds −1."
 abbrev pub eof : Bool → List Range
 eof b = pick b (range none none ∷ []) []
 
 -- A set, behind so many kept ranges.
-unfoldable pub set : ℕ → Prog (List Range)
-set kept = do
-  n ← index 19
-  b ← flagged kept n
-  l ← times n interval
+unfoldable pub set : ℕ → ℕ → Prog (List Range)
+set i kept = do
+  n ← index (spot 19 i)
+  b ← flagged i kept n
+  l ← times n 0 (λ j. interval i)
   done (keep (eof b ++ l))
 
 -- "later sets start behind what it kept"
-unfoldable pub setsFrom : ℕ → ℕ → Prog (List (List Range))
-setsFrom zero kept = done []
-setsFrom (suc n) kept = do
-  s ← set kept
-  l ← setsFrom n (kept + length s)
+unfoldable pub setsFrom : ℕ → ℕ → ℕ → Prog (List (List Range))
+setsFrom zero i kept = done []
+setsFrom (suc n) i kept = do
+  s ← set i kept
+  l ← setsFrom n (i + 1) (kept + length s)
   done (s ∷ l)
 
 unfoldable pub sets : Prog (List (List Range))
-sets = count Sets 18 >>= (λ n. setsFrom n 0)
+sets = count Sets 18 >>= (λ n. setsFrom n 0 0)
 
 -- ---- fields 23 to 29: edges
 
@@ -210,37 +212,37 @@ meaning k s t a b c =
     ∷ []) k plain
 
 -- "then a negative or 9": "in a of types 3, 4, 6, 7, 8"; "9: set number not listed"; n sets are listed
-unfoldable pub testA : ℕ → ℕ → ℕ → ℤ → Prog ℕ
-testA n k p a =
-    pick (among k (7 ∷ 8 ∷ [])) (natural 27 p a >>= listed 9 n 27 p)
-    (pick (among k (3 ∷ 4 ∷ 6 ∷ [])) (natural 27 p a) (done 0))
+unfoldable pub testA : ℕ → ℕ → ℕ → ℕ → ℤ → Prog ℕ
+testA i n k p a =
+    pick (among k (7 ∷ 8 ∷ [])) (natural (spot 27 i) p a >>= listed 9 n (spot 27 i) p)
+    (pick (among k (3 ∷ 4 ∷ 6 ∷ [])) (natural (spot 27 i) p a) (done 0))
 
 -- "then b": "in b of 3, 4"
-unfoldable pub testB : ℕ → ℕ → ℤ → Prog ℕ
-testB k p b = pick (among k (3 ∷ 4 ∷ [])) (natural 28 p b) (done 0)
+unfoldable pub testB : ℕ → ℕ → ℕ → ℤ → Prog ℕ
+testB i k p b = pick (among k (3 ∷ 4 ∷ [])) (natural (spot 28 i) p b) (done 0)
 
 -- "Edges: six words are read (24 and 25 tested as read), then 8, then a negative or 9, then b, then 10."
-unfoldable pub edge : ℕ → ℕ → Prog Edge
-edge nstates nsets = here (λ place. do
-  s ← index 24
-  t ← index 25
-  w ← get 26
-  a ← get 27
-  b ← get 28
-  c ← get 29
-  k ← known 8 1 10 26 (place + 2) w
-  testA nsets k (place + 3) a
-  testB k (place + 4) b
-  listed 10 nstates 24 place s
+unfoldable pub edge : ℕ → ℕ → ℕ → Prog Edge
+edge nstates nsets i = here (λ place. do
+  s ← index (spot 24 i)
+  t ← index (spot 25 i)
+  w ← get (spot 26 i)
+  a ← get (spot 27 i)
+  b ← get (spot 28 i)
+  c ← get (spot 29 i)
+  k ← known 8 1 10 (spot 26 i) (place + 2) w
+  testA i nsets k (place + 3) a
+  testB i k (place + 4) b
+  listed 10 nstates (spot 24 i) place s
   done (meaning k s t a b c))
 
 unfoldable pub edges : ℕ → ℕ → Prog (List Edge)
-edges nstates nsets = count Edges 23 >>= (λ n. times n (edge nstates nsets))
+edges nstates nsets = count Edges 23 >>= (λ n. times n 0 (edge nstates nsets))
 
 -- ---- fields 30 to 35: decisions and actions
 
 unfoldable pub decisions : Prog (List ℕ)
-decisions = count Decisions 30 >>= (λ n. times n (index 31))
+decisions = count Decisions 30 >>= (λ n. times n 0 (λ i. index (spot 31 i)))
 
 -- "Action types 0 channel, 2 mode, 5 push, 7 type keep d1; 1 custom keeps both; 3 more, 4 pop, 6 skip keep none. What isn't kept is 0."
 abbrev pub actionOf : ℕ → ℤ → ℤ → Action
@@ -248,13 +250,13 @@ actionOf k d1 d2 =
     record { kind = k; d1 = pick (among k (0 ∷ 1 ∷ 2 ∷ 5 ∷ 7 ∷ [])) d1 (pos 0); d2 = pick (eqb k 1) d2 (pos 0) }
 
 -- "Actions: three words, then 11."
-unfoldable pub action : Prog Action
-action = here (λ place. do
-  w ← get 33
-  d1 ← get 34
-  d2 ← get 35
-  k ← known 11 0 7 33 place w
+unfoldable pub action : ℕ → Prog Action
+action i = here (λ place. do
+  w ← get (spot 33 i)
+  d1 ← get (spot 34 i)
+  d2 ← get (spot 35 i)
+  k ← known 11 0 7 (spot 33 i) place w
   done (actionOf k d1 d2))
 
 unfoldable pub actions : Prog (List Action)
-actions = count Actions 32 >>= (λ n. times n action)
+actions = count Actions 32 >>= (λ n. times n 0 action)

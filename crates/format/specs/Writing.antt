@@ -6,7 +6,7 @@ use Prim.Native.Nat.{ℕ, zero, suc, _-_, _≤_, _<_}
 use lib.Dec.{ltb, eqb}
 use lib.IntN.{ℤ, pos}
 use lib.ListN.{length, getD, take, drop}
-use Rattle.format.specs.Reading.{Table, States, Edges, Ranges, Sets, Rules, Modes, Decisions, Actions, Outcome, ok, no, pick, refusal, run}
+use Rattle.format.specs.Reading.{Table, States, Edges, Ranges, Sets, Rules, Modes, Decisions, Actions, Outcome, ok, no, pick, bare, run}
 use Rattle.format.specs.Sets.{Range, range}
 use Rattle.format.specs.Sections.{State, Rule, Edge, Action, Read, stateOf, edgeOf, same, among, size, follows}
 use Rattle.format.specs.Links.{those, numbers, each}
@@ -175,9 +175,9 @@ writing told left = record { told = told; left = left }
 abbrev pub wrote : List ℤ → ℕ → Writing
 wrote ws m = writing (W.Wrote (length ws)) (ws ++ zeros (m - length ws))
 
--- "Refusals from here on hold 0 in what isn't named"; "either leaves the output all zero"
+-- "either leaves the output all zero"
 abbrev pub unwritten : ℕ → ℕ → Writing
-unwritten number m = writing (W.Refused (refusal number 0 0 (pos 0))) (zeros m)
+unwritten number m = writing (W.Refused (bare number)) (zeros m)
 
 -- "15 exactly when .., tested first; 16 exactly when the output is too short": these three are all there are (rewriting: `writes-only`), and
 -- each is given in its own case alone (`fifteen-only`, `sixteen-only`, `wrote-writable`).

@@ -13,10 +13,17 @@ ghost use mathlib.Core.Path.{_≡_};
 ghost use lib.ListN.{getD};
 ghost use Rattle.format.specs.Sections.{follows};
 
-// Why a decode or a writing was refused: its number, field, place and value.
+// What a word belongs to: its field, and the number of its record, from 0 (document 02, R-2).
+pub struct Spot {
+    pub field: u32,
+    pub record: usize,
+}
+
+// Why a decode or a writing was refused: its number, field, record number, place and value.
 pub struct Refusal {
     pub number: u32,
     pub field: u32,
+    pub record: usize,
     pub place: usize,
     pub value: i64,
 }
@@ -36,7 +43,7 @@ pub struct Counts {
     pub actions: usize,
 }
 
-// Either an acceptance holding its counts or a refusal holding its number, field, place and value.
+// Either an acceptance holding its counts or a refusal holding its number, field, record number, place and value.
 pub enum Decoded {
     Accepted(Counts),
     Refused(Refusal),

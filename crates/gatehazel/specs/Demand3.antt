@@ -11,6 +11,7 @@ use Rattle.format.specs.Reading.{Table, ended, States, Edges, Ranges, Sets, Rul
 use Rattle.format.specs.Tables.{nine, zeros}
 use Rattle.format.specs.Decode.{Answer, decoded}
 use Rattle.format.specs.declared.Refusal.{Refusal}
+use Rattle.format.specs.declared.Spot.{Spot}
 use Rattle.format.specs.declared.Counts.{Counts}
 use Rattle.format.specs.declared.Decoded.{Decoded}
 use Rattle.format.specs.declared.Decoded.the-variants as D
@@ -41,7 +42,7 @@ same-words {t} {ws = ws} {c = c} zs l a b =
 
 -- "any shorter run is refused as ended, at its own length", with all zero
 pub shorter-run : {t t′ : Tables} {ws : List ℤ} {c : Counts} {r′ : Decoded} {u u′ : Tables} (m : ℕ) → lengths t′ ≡ lengths t → m < c .words
-    → Decodes t ws 0 (D.Accepted c) u → Decodes t′ (take m ws) 0 r′ u′ → (f : ℕ) × ((r′ ≡ D.Refused (ended f m)) × (u′ ≡ blank (lengths t)))
+    → Decodes t ws 0 (D.Accepted c) u → Decodes t′ (take m ws) 0 r′ u′ → (f : Spot) × ((r′ ≡ D.Refused (ended f m)) × (u′ ≡ blank (lengths t)))
 shorter-run {t} {t′} {ws} {c = c} m l h a b =
     let x = laws.cut-short (lengths t) ws 0 c (sym (a .told)) m (omega arith) in
     let e = ap (λ (n : Table → ℕ). decoded n (take m ws) 0) l ∙ x .1 in

@@ -4,10 +4,10 @@ use mathlib.Core.Path.{_≡_, refl, sym, ap, _∙_, subst}
 use mathlib.Core.List.{List, []}
 use mathlib.Core.Logic.{_↔_}
 use Prim.Native.Nat.{ℕ, _-_, _≤_}
-use lib.IntN.{ℤ, pos}
+use lib.IntN.{ℤ}
 use lib.ListN.{length, take}
 use lib.Seq.{take-append-seam}
-use Rattle.format.specs.Reading.{Table, refusal}
+use Rattle.format.specs.Reading.{Table, bare}
 use Rattle.format.specs.Tables.{nine, room, zeros}
 use Rattle.format.specs.Decode.{Answer, decoded}
 use Rattle.format.specs.Writing.{given, Writable, wordsFor, Writing, writing, wrote, Writes}
@@ -68,7 +68,7 @@ module _ {t : Tables} {ws : List ℤ} {at : ℕ} {c : Counts} {u : Tables} (d : 
       subst (λ (v : Tables). Writable (eightOf v) (records-counted c)) (sym (d .left)) (record { within = w .within; comes = w .comes })
 
   -- they are never refused with 15, whatever the max token type and the output
-  pub never-fifteen : {token : ℤ} {m : ℕ} {a : Writing} → Writes (eightOf u) (records-counted c) token m a → a .told ≡ W.Refused (refusal 15 0 0 (pos 0)) → ⊥
+  pub never-fifteen : {token : ℤ} {m : ℕ} {a : Writing} → Writes (eightOf u) (records-counted c) token m a → a .told ≡ W.Refused (bare 15) → ⊥
   never-fifteen {token} {m} {a} w e = fifteen-only (eightOf u) (records-counted c) token m a w e can-be-written
 
   -- what is written of them is what a decode left to be written

@@ -4,7 +4,7 @@ use mathlib.Core.Bool.{Bool, _&&_}
 use Prim.Native.Nat.{ℕ, zero, suc, _+_, _/_, _%_}
 use lib.Dec.{ltb, eqb}
 use lib.IntN.{ℤ, pos}
-use Rattle.format.specs.Reading.{Edges, Prog, done, need, here, _>>=_, pick, count}
+use Rattle.format.specs.Reading.{Edges, Prog, done, need, spot, here, _>>=_, pick, count}
 use Rattle.format.specs.Sections.{Edge, edgeOf, same, size, bit, edge}
 use Rattle.format.specs.Links.{names}
 use Rattle.format.specs.declared.Counts.{Counts}
@@ -46,7 +46,7 @@ linked i mark e t = chained i (e .source) (net (t .states) (put 8 i (edgeRow mar
 -- ---- the edges that are read
 
 unfoldable pub edgeOne : ℕ → ℕ → ℕ → Net → Prog Net
-edgeOne nstates nsets i t = edge nstates nsets >>= (λ e. done (linked i 0 e t))
+edgeOne nstates nsets i t = edge nstates nsets i >>= (λ e. done (linked i 0 e t))
 
 abbrev pub edgesEnd : Counts → ℕ → Net → Prog (Held Net)
 edgesEnd c n t = here (λ p. done (with (counted Edges c n p) t))
@@ -119,7 +119,7 @@ returnsDone room ru h d =
 unfoldable pub returns : ℕ → List ℤ → Held Net → Prog (Held Net)
 returns room ru h =
     let d = returnsOf (h .counts .states) (h .counts .rules) ru (h .table) (h .counts .edges) in
-    here (λ p. need Edges (h .counts .edges + d) 23 p (done (returnsDone room ru h d)))
+    here (λ p. need Edges (h .counts .edges + d) (spot 23 0) p (done (returnsDone room ru h d)))
 
 -- ---- precedence decisions: n states, m edges, k rules
 

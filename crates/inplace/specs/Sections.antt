@@ -3,7 +3,7 @@ use mathlib.Core.List.{List, [], _∷_}
 use mathlib.Core.Bool.{_&&_}
 use Prim.Native.Nat.{ℕ, zero, suc, _+_}
 use lib.IntN.{ℤ, pos}
-use Rattle.format.specs.Reading.{Table, States, Edges, Ranges, Sets, Rules, Modes, Decisions, Actions, Scratch, Prog, done, here, _>>=_, _>>_, pick, get, index, count}
+use Rattle.format.specs.Reading.{Table, States, Edges, Ranges, Sets, Rules, Modes, Decisions, Actions, Scratch, Prog, done, here, _>>=_, _>>_, spot, pick, get, index, count}
 use Rattle.format.specs.Sections.{none, same, size, version, grammar, state, named, rule, action}
 use Rattle.format.specs.Links.{names}
 use Rattle.format.specs.Tables.{width, stateWord, actionWords}
@@ -22,7 +22,7 @@ abbrev pub begun : ℤ → Prog (Held (Unit {0}))
 begun v = here (λ p. done (with (noCounts v p) tt))
 
 unfoldable pub header : Prog (Held (Unit {0}))
-header = version >> grammar >> get 3 >>= begun
+header = version >> grammar >> get (spot 3 0) >>= begun
 
 -- ---- a count, and so many records of one table
 
@@ -38,17 +38,17 @@ fieldOf Ranges = 20
 fieldOf Sets = 18
 fieldOf Scratch = 0
 
--- One record's words, as they are first written. A rule's stop is found when all rules are read.
-unfoldable pub rowOf : Table → Prog (List ℤ)
-rowOf States = state >>= (λ x. done (stateRow x))
-rowOf Rules = rule >>= (λ x. done (pos (x .start) ∷ none ∷ x .token ∷ []))
-rowOf Modes = index 17 >>= (λ s. done (stateWord s))
-rowOf Decisions = index 31 >>= (λ s. done (stateWord s))
-rowOf Actions = action >>= (λ x. done (actionWords x))
-rowOf Edges = done []
-rowOf Ranges = done []
-rowOf Sets = done []
-rowOf Scratch = done []
+-- The i-th record's words, as they are first written. A rule's stop is found when all rules are read.
+unfoldable pub rowOf : Table → ℕ → Prog (List ℤ)
+rowOf States i = state i >>= (λ x. done (stateRow x))
+rowOf Rules i = rule i >>= (λ x. done (pos (x .start) ∷ none ∷ x .token ∷ []))
+rowOf Modes i = index (spot 17 i) >>= (λ s. done (stateWord s))
+rowOf Decisions i = index (spot 31 i) >>= (λ s. done (stateWord s))
+rowOf Actions i = action i >>= (λ x. done (actionWords x))
+rowOf Edges i = done []
+rowOf Ranges i = done []
+rowOf Sets i = done []
+rowOf Scratch i = done []
 
 -- The counts with n records of a table, and the place behind them.
 abbrev pub counted : Table → Counts → ℕ → ℕ → Counts
@@ -74,7 +74,7 @@ section t h = count t (fieldOf t) >>= sectionFrom t h
 -- ---- flags, in the states' table: the count is at the field f, the states at the next
 
 unfoldable pub flagOne : ℕ → ℕ → ℕ → ℕ → List ℤ → Prog (List ℤ)
-flagOne b n f i t = named n f >>= (λ s. done (flagAt b s t))
+flagOne b n f i t = named n (spot f i) >>= (λ s. done (flagAt b s t))
 
 abbrev pub moved : Counts → ℕ → Counts
 moved c p = record { words = p; token = c .token; states = c .states; edges = c .edges; derived = c .derived; ranges = c .ranges; sets = c .sets; rules = c .rules; modes = c .modes; decisions = c .decisions; actions = c .actions }
@@ -86,7 +86,7 @@ abbrev pub flagsFrom : ℕ → ℕ → Held (List ℤ) → ℕ → Prog (Held (L
 flagsFrom b f h k = turns k 0 (flagOne b (h .counts .states) (f + 1)) (h .table) >>= flagsEnd (h .counts)
 
 unfoldable pub flagging : ℕ → ℕ → Held (List ℤ) → Prog (Held (List ℤ))
-flagging b f h = index f >>= flagsFrom b f h
+flagging b f h = index (spot f 0) >>= flagsFrom b f h
 
 -- ---- stops, in the rules' table: of k rules, by the first s states
 

@@ -4,7 +4,7 @@ use mathlib.Core.Bool.{Bool}
 use Prim.Native.Nat.{ℕ, _+_, _-_, _*_}
 use lib.IntN.{ℤ, pos}
 use lib.ListN.{length, take, drop}
-use Rattle.format.specs.Reading.{Prog, done, here, _>>=_, index, count, times}
+use Rattle.format.specs.Reading.{Prog, done, here, _>>=_, spot, index, count, times}
 use Rattle.format.specs.Sets.{Range, keep}
 use Rattle.format.specs.Sections.{bit, eof, flagged, interval}
 use Rattle.format.specs.Links.{each}
@@ -37,7 +37,7 @@ setDone i x n b l =
     }
 
 unfoldable pub setOne : ℕ → Keeping → Prog Keeping
-setOne i x = index 19 >>= (λ n. flagged (x .kept) n >>= (λ b. times n interval >>= (λ l. done (setDone i x n b l))))
+setOne i x = index (spot 19 i) >>= (λ n. flagged i (x .kept) n >>= (λ b. times n 0 (λ j. interval i) >>= (λ l. done (setDone i x n b l))))
 
 -- The two tables.
 pub record Sets2 : Type 0 where

@@ -18,8 +18,8 @@ abbrev pub put : ℕ → ℕ → List ℤ → List ℤ → List ℤ
 put w i r t = take (w * i) t ++ (r ++ drop (w * i + w) t)
 
 -- the i-th record is what p gives
-abbrev pub puts : ℕ → Prog (List ℤ) → ℕ → List ℤ → Prog (List ℤ)
-puts w p i t = p >>= (λ r. done (put w i r t))
+abbrev pub puts : ℕ → (ℕ → Prog (List ℤ)) → ℕ → List ℤ → Prog (List ℤ)
+puts w p i t = p i >>= (λ r. done (put w i r t))
 
 -- the table t, with records of w words from the i-th on
 abbrev pub laid : ℕ → ℕ → ℕ → List ℤ → List (List ℤ) → List ℤ
@@ -53,29 +53,29 @@ step : (w i n : ℕ) (r t : List ℤ) → length r ≡ w → w * i ≤ length t 
 step w i n r t h b (ok rs k) = ap (λ (l : List ℤ). ok l k) (laid-more w i n r t rs h b)
 step w i n r t h b (no q) = refl
 
-module _ (w : ℕ) (p : Prog (List ℤ)) (ws : List ℤ) (room : Table → ℕ) (wide : (at : ℕ) (r : List ℤ) (m : ℕ) → run p ws room at ≡ ok r m → length r ≡ w) where
+module _ (w : ℕ) (p : ℕ → Prog (List ℤ)) (ws : List ℤ) (room : Table → ℕ) (wide : (i at : ℕ) (r : List ℤ) (m : ℕ) → run (p i) ws room at ≡ ok r m → length r ≡ w) where
   -- n records put from the i-th on are n records read, laid in a row
   pub puts-times : (n i : ℕ) (t : List ℤ) (at : ℕ) → w * (i + n) ≤ length t
-      → run (turns n i (puts w p) t) ws room at ≡ after (run (times n p) ws room at) (λ rs m. ok (laid w i n t rs) m)
+      → run (turns n i (puts w p) t) ws room at ≡ after (run (times n i p) ws room at) (λ rs m. ok (laid w i n t rs) m)
   unfolding run turns times
   puts-times zero i t at b = ap (λ (l : List ℤ). ok l at) (sym (rw add-zero (take-append-drop (w * i) t)))
-  puts-times (suc n) i t at b = go (puts-times n (i + 1)) (run p ws room at) refl
+  puts-times (suc n) i t at b = go (puts-times n (i + 1)) (run (p i) ws room at) refl
     where
       bound : w * i + w + w * n ≤ length t
       bound = omega (arith, b, mul-add w i (suc n), mul-suc w n)
 
-      go : ((u : List ℤ) (m : ℕ) → w * (i + 1 + n) ≤ length u → run (turns n (i + 1) (puts w p) u) ws room m ≡ after (run (times n p) ws room m) (λ rs k. ok (laid w (i + 1) n u rs) k))
-          → (o : Outcome (List ℤ)) → run p ws room at ≡ o
-          → run (turns (suc n) i (puts w p) t) ws room at ≡ after (run (times (suc n) p) ws room at) (λ rs m. ok (laid w i (suc n) t rs) m)
+      go : ((u : List ℤ) (m : ℕ) → w * (i + 1 + n) ≤ length u → run (turns n (i + 1) (puts w p) u) ws room m ≡ after (run (times n (i + 1) p) ws room m) (λ rs k. ok (laid w (i + 1) n u rs) k))
+          → (o : Outcome (List ℤ)) → run (p i) ws room at ≡ o
+          → run (turns (suc n) i (puts w p) t) ws room at ≡ after (run (times (suc n) i p) ws room at) (λ rs m. ok (laid w i (suc n) t rs) m)
       go ih (ok r m) e =
-          let h : length r ≡ w = wide at r m e in
+          let h : length r ≡ w = wide i at r m e in
           let f : w * (i + 1 + n) ≡ w * i + w + w * n = rw (mul-add w (i + 1) n, mul-add w i 1, mul-one w) refl in
-          ok-then (puts w p i t) (λ u. turns n (i + 1) (puts w p) u) ws room at (sym (ok-then p (λ r. done (put w i r t)) ws room at (sym e)))
+          ok-then (puts w p i t) (λ u. turns n (i + 1) (puts w p) u) ws room at (sym (ok-then (p i) (λ r. done (put w i r t)) ws room at (sym e)))
           ∙ ih (put w i r t) m (omega (arith, f, bound, put-length w i r t h (omega (arith, bound))))
-          ∙ step w i n r t h (omega (arith, bound)) (run (times n p) ws room m)
+          ∙ step w i n r t h (omega (arith, bound)) (run (times n (i + 1) p) ws room m)
           ∙ ap (λ (o : Outcome (List (List ℤ))). after o (λ rs k. ok (laid w i (suc n) t rs) k))
-          (sym (ok-then p (λ a. times n p >>= (λ l. done (a ∷ l))) ws room at (sym e) ∙ run-bind (times n p) (λ l. done (r ∷ l)) ws room m))
+          (sym (ok-then (p i) (λ a. times n (i + 1) p >>= (λ l. done (a ∷ l))) ws room at (sym e) ∙ run-bind (times n (i + 1) p) (λ l. done (r ∷ l)) ws room m))
       go ih (no q) e =
-          no-then (puts w p i t) (λ u. turns n (i + 1) (puts w p) u) ws room at (sym (no-then p (λ r. done (put w i r t)) ws room at (sym e)))
+          no-then (puts w p i t) (λ u. turns n (i + 1) (puts w p) u) ws room at (sym (no-then (p i) (λ r. done (put w i r t)) ws room at (sym e)))
           ∙ ap (λ (o : Outcome (List (List ℤ))). after o (λ rs k. ok (laid w i (suc n) t rs) k))
-          (sym (no-then p (λ a. times n p >>= (λ l. done (a ∷ l))) ws room at (sym e)))
+          (sym (no-then (p i) (λ a. times n (i + 1) p >>= (λ l. done (a ∷ l))) ws room at (sym e)))

@@ -9,9 +9,10 @@ use lib.Seq.{getD-take}
 use mathlib.Core.Logic.{⊎-elim}
 use borrow.Author.Tests.{le-ltb}
 use Rattle.format.specs.declared.Refusal.{Refusal}
+use Rattle.format.specs.declared.Spot.{Spot}
 use Rattle.format.specs.declared.Counts.{Counts}
 use Rattle.format.specs.declared.Decoded.the-variants as D
-use Rattle.format.specs.Reading.{Table, States, Edges, Ranges, Sets, Rules, Modes, Decisions, Actions, Scratch, Outcome, ok, no, run, ended, _>>=_}
+use Rattle.format.specs.Reading.{Table, States, Edges, Ranges, Sets, Rules, Modes, Decisions, Actions, Scratch, Outcome, ok, no, run, spot, ended, _>>=_}
 use Rattle.format.specs.Sections.{Read, version}
 use Rattle.format.specs.Links.{flat}
 use Rattle.format.specs.Tables.{room, records, table, zeros, countsOf}
@@ -35,7 +36,7 @@ accepting lent ws at c e = go (run dialect ws (room lent) at) refl e
     go (ok r n) q t = record { read = r; behind = n; ran = q; counted = cc }
     go (no q) p t = absurd (let z : _≡_ {A = ℕ} 0 1 = cc in omega arith)
 
-refusing : (lent : Table → ℕ) (ws : List ℤ) (at : ℕ) (q : Refusal) → decoded lent ws at .told ≡ D.Refused q → run dialect ws (room lent) at ≡ no q
+pub refusing : (lent : Table → ℕ) (ws : List ℤ) (at : ℕ) (q : Refusal) → decoded lent ws at .told ≡ D.Refused q → run dialect ws (room lent) at ≡ no q
 unfolding decoded
 refusing lent ws at q e = go (run dialect ws (room lent) at) refl e
   where
@@ -53,7 +54,7 @@ begins : (ws : List ℤ) (rooms : Table → ℕ) (at : ℕ) {r : Read} {n : ℕ}
 unfolding run dialect version _>>=_
 begins ws rooms at {r} {n} e = ⊎-elim (λ (x : length ws ≤ at). clash (sym (rw (le-ltb at (length ws) x) at e))) (λ x. x) (order (length ws) at)
 
-begins-not : (ws : List ℤ) (rooms : Table → ℕ) (at : ℕ) → length ws ≤ at → run dialect ws rooms at ≡ no (ended 1 (length ws))
+pub begins-not : (ws : List ℤ) (rooms : Table → ℕ) (at : ℕ) → length ws ≤ at → run dialect ws rooms at ≡ no (ended (spot 1 0) (length ws))
 unfolding run dialect version _>>=_
 begins-not ws rooms at h = rw (le-ltb at (length ws) h) refl
 
@@ -82,19 +83,19 @@ module _ (lent : Table → ℕ) (ws : List ℤ) (at : ℕ) (c : Counts) (e : dec
       decoded-by lent ws (take (at + c .words) ws ++ zs) at
       (again dialect ws (take (at + c .words) ws ++ zs) (room lent) at r (omega (arith, length-append (take (at + c .words) ws) zs, taken-long ws zs (at + c .words) h)) (taken-agree ws zs (at + c .words) h) ∙ sym r)
 
-  shorter : (m : ℕ) → m < at + c .words → (f : ℕ) × (run dialect (take m ws) (room lent) at ≡ no (ended f m))
+  shorter : (m : ℕ) → m < at + c .words → (f : Spot) × (run dialect (take m ws) (room lent) at ≡ no (ended f m))
   shorter m k =
       let a = accepting lent ws at c e in
       let n : at + c .words ≡ a .behind = words-are lent ws at c a in
       let b : at < length ws = begins ws (room lent) at (a .ran) in
       let h : m ≤ length ws = omega (arith, within dialect ws (room lent) at (omega arith) (a .ran)) in
       let l : length (take m ws) ≡ m = taken-long ws [] m h in
-      subst (λ (j : ℕ). (f : ℕ) × (run dialect (take m ws) (room lent) at ≡ no (ended f j))) l
-      (⊎-elim (λ (x : m ≤ at). (1, begins-not (take m ws) (room lent) at (omega arith)))
+      subst (λ (j : ℕ). (f : Spot) × (run dialect (take m ws) (room lent) at ≡ no (ended f j))) l
+      (⊎-elim (λ (x : m ≤ at). (spot 1 0, begins-not (take m ws) (room lent) at (omega arith)))
       (λ x. cut dialect ws (take m ws) (room lent) at (a .ran) (omega arith) (omega arith) (record { words = λ i u. getD-take m ws i (pos 0) (omega arith) })) (order m at))
 
   -- (b) every shorter run of them is refused as ended, at its own length
-  pub cut-short : (m : ℕ) → m < at + c .words → (f : ℕ) × (decoded lent (take m ws) at ≡ answer lent at (no (ended f m)))
+  pub cut-short : (m : ℕ) → m < at + c .words → (f : Spot) × (decoded lent (take m ws) at ≡ answer lent at (no (ended f m)))
   unfolding decoded
   cut-short m k = let y = shorter m k in (y .0, ap (answer lent at) (y .1))
 

@@ -6,7 +6,7 @@ use Prim.Native.Nat.{ℕ, zero, suc, _+_, _-_, _*_, _≤_}
 use native.Mathlib.Omega.{arith}
 use lib.IntN.{ℤ, pos}
 use lib.ListN.{length, length-append, length-replicate}
-use Rattle.format.specs.Reading.{Table, States, Edges, Ranges, Sets, Rules, Modes, Decisions, Actions, Scratch, Outcome, ok, no, run, times, get, index, count}
+use Rattle.format.specs.Reading.{Table, States, Edges, Ranges, Sets, Rules, Modes, Decisions, Actions, Scratch, Outcome, ok, no, run, times, spot, get, index, count}
 use Rattle.format.specs.Sets.{Range, lower, upper, add, addAny, keepOnto, keep}
 use Rattle.format.specs.Sections.{State, Edge, Read, bit, eof, version, grammar, state, states, flags, rule, rules, modes, interval, flagged, set, setsFrom, sets, edges, decisions, action, actions}
 use Rattle.format.specs.Links.{flat, derived}
@@ -56,26 +56,26 @@ abbrev W : ℤ → Type 0
 W v = Unit {0}
 
 module _ (room : Table → ℕ) where
-  pub flagged-room : (kept n : ℕ) → Gives W room (λ b. kept + n + bit b ≤ room Ranges) (flagged kept n)
+  pub flagged-room : (i kept n : ℕ) → Gives W room (λ b. kept + n + bit b ≤ room Ranges) (flagged i kept n)
   unfolding flagged Gives
-  flagged-room kept n = λ p v x h. h
+  flagged-room i kept n = λ p v x h. h
 
-  set-room : (kept : ℕ) → Gives W room (λ s. kept + length s ≤ room Ranges) (set kept)
+  set-room : (i kept : ℕ) → Gives W room (λ s. kept + length s ≤ room Ranges) (set i kept)
   unfolding set
-  set-room kept =
-      then W room _ (index 19) _ (λ n. gives-bind W room (λ b. kept + n + bit b ≤ room Ranges) _ (flagged kept n) _ (flagged-room kept n) (λ b h.
-      gives-bind W room (λ (l : List Range). (length l ≡ n) × Every Any l) _ (times n interval) _ (gives-times W room Any n interval (gives-any W room interval)) (λ l x.
+  set-room i kept =
+      then W room _ (index (spot 19 i)) _ (λ n. gives-bind W room (λ b. kept + n + bit b ≤ room Ranges) _ (flagged i kept n) _ (flagged-room i kept n) (λ b h.
+      gives-bind W room (λ (l : List Range). (length l ≡ n) × Every Any l) _ (times n 0 (λ j. interval i)) _ (gives-times W room Any n 0 (λ j. interval i) (λ j. gives-any W room (interval i))) (λ l x.
       gives-done W room (λ s. kept + length s ≤ room Ranges) (keep (eof b ++ l)) (omega (arith, x .0, keep-short (eof b ++ l), length-append (eof b) l, eof-long b)))))
 
   abbrev SetsIn : ℕ → ℕ → List (List Range) → Type 0
   SetsIn n kept ls = (length ls ≡ n) × (kept + length (flat ls) ≤ room Ranges)
 
-  sets-room : (n kept : ℕ) → kept ≤ room Ranges → Gives W room (SetsIn n kept) (setsFrom n kept)
+  sets-room : (n i kept : ℕ) → kept ≤ room Ranges → Gives W room (SetsIn n kept) (setsFrom n i kept)
   unfolding setsFrom
-  sets-room zero kept h = gives-done W room (SetsIn zero kept) [] (refl, omega arith)
-  sets-room (suc n) kept h =
-      gives-bind W room (λ s. kept + length s ≤ room Ranges) (SetsIn (suc n) kept) (set kept) _ (set-room kept) (λ s x.
-      gives-bind W room (SetsIn n (kept + length s)) (SetsIn (suc n) kept) (setsFrom n (kept + length s)) _ (sets-room n (kept + length s) x) (λ l y.
+  sets-room zero i kept h = gives-done W room (SetsIn zero kept) [] (refl, omega arith)
+  sets-room (suc n) i kept h =
+      gives-bind W room (λ s. kept + length s ≤ room Ranges) (SetsIn (suc n) kept) (set i kept) _ (set-room i kept) (λ s x.
+      gives-bind W room (SetsIn n (kept + length s)) (SetsIn (suc n) kept) (setsFrom n (i + 1) (kept + length s)) _ (sets-room n (i + 1) (kept + length s) x) (λ l y.
       gives-done W room (SetsIn (suc n) kept) (s ∷ l) (ap suc (y .0), omega (arith, y .1, length-append s (flat l)))))
 
   abbrev SetsRoom : List (List Range) → Type 0
@@ -85,7 +85,7 @@ module _ (room : Table → ℕ) where
   unfolding sets
   all-sets-room =
       gives-bind W room (λ n. n ≤ room Sets) SetsRoom (count Sets 18) _ (gives-count W room Sets 18)
-      (λ n h. weaker W room (SetsIn n 0) SetsRoom (λ ls x. (omega (arith, x .0), omega (arith, x .1))) (setsFrom n 0) (sets-room n 0 (omega arith)))
+      (λ n h. weaker W room (SetsIn n 0) SetsRoom (λ ls x. (omega (arith, x .0), omega (arith, x .1))) (setsFrom n 0 0) (sets-room n 0 0 (omega arith)))
 
   returning-room : (ss : List State) (n : ℕ) (es : List Edge) → Gives W room (λ l. length es + length (derived ss n es) ≤ room Edges) (returning ss n es)
   unfolding returning Gives
@@ -94,15 +94,15 @@ module _ (room : Table → ℕ) where
   dialect-room : Gives W room (Roomed room) dialect
   unfolding dialect states rules modes edges decisions actions
   dialect-room =
-      then W room (Roomed room) version _ (λ a. then W room (Roomed room) Rattle.format.specs.Sections.grammar _ (λ b. then W room (Roomed room) (get 3) _ (λ token.
+      then W room (Roomed room) version _ (λ a. then W room (Roomed room) Rattle.format.specs.Sections.grammar _ (λ b. then W room (Roomed room) (get (spot 3 0)) _ (λ token.
       gives-bind W room (λ ss. length ss ≤ room States) (Roomed room) states _ (gives-counted W room States 4 state) (λ ss h4.
       then W room (Roomed room) (flags (length ss) 9) _ (λ ones. then W room (Roomed room) (flags (length ss) 11) _ (λ twos.
       gives-bind W room (λ rs. length rs ≤ room Rules) (Roomed room) rules _ (gives-counted W room Rules 13 rule) (λ rs h13.
-      gives-bind W room (λ ms. length ms ≤ room Modes) (Roomed room) modes _ (gives-counted W room Modes 16 (index 17)) (λ ms h16.
+      gives-bind W room (λ ms. length ms ≤ room Modes) (Roomed room) modes _ (gives-counted W room Modes 16 (λ i. index (spot 17 i))) (λ ms h16.
       gives-bind W room SetsRoom (Roomed room) sets _ all-sets-room (λ ls h18.
       then W room (Roomed room) (edges (length ss) (length ls)) _ (λ es.
       gives-bind W room (λ l. length es + length (derived ss (length rs) es) ≤ room Edges) (Roomed room) (returning ss (length rs) es) _ (returning-room ss (length rs) es) (λ es2 h23.
-      gives-bind W room (λ ds. length ds ≤ room Decisions) (Roomed room) decisions _ (gives-counted W room Decisions 30 (index 31)) (λ ds h30.
+      gives-bind W room (λ ds. length ds ≤ room Decisions) (Roomed room) decisions _ (gives-counted W room Decisions 30 (λ i. index (spot 31 i))) (λ ds h30.
       gives-bind W room (λ xs. length xs ≤ room Actions) (Roomed room) actions _ (gives-counted W room Actions 32 action) (λ xs h32.
       gives-done W room (Roomed room) _ (record { states = h4; edges = h23; ranges = h18 .1; sets = h18 .0; rules = h13; modes = h16; decisions = h30; actions = h32 }))))))))))))))
 

@@ -8,7 +8,7 @@ use lib.Dec.{ltb, leb}
 use lib.IntN.{ℤ, pos, negsuc}
 use lib.ListN.{length, getD}
 use borrow.Author.Tests.{ltb-true, leb-true}
-use Rattle.format.specs.Reading.{Table, ok, no, Prog, done, refuse, word, need, here, run, _>>=_, times, natural, count, ended, noRoom, pick}
+use Rattle.format.specs.Reading.{Table, ok, no, Prog, done, refuse, word, need, here, run, _>>=_, times, spot, natural, count, ended, noRoom, pick}
 use Rattle.laws.specs.Reading.{clash}
 
 unfoldable pub Gives : {A : Type 0} → (ℤ → Type 0) → (Table → ℕ) → (A → Type 0) → Prog A → Type 0
@@ -73,19 +73,19 @@ module _ (W : ℤ → Type 0) (room : Table → ℕ) where
   gives-run P (here k) g ws at w e = gives-run P (k at) (g at) ws at w e
 
   -- n turns give n results, and each has what a turn gives
-  pub gives-times : {A : Type 0} (P : A → Type 0) (n : ℕ) (p : Prog A) → Gives W room P p → Gives W room (λ l. (length l ≡ n) × Every P l) (times n p)
+  pub gives-times : {A : Type 0} (P : A → Type 0) (n i : ℕ) (p : ℕ → Prog A) → ((j : ℕ) → Gives W room P (p j)) → Gives W room (λ l. (length l ≡ n) × Every P l) (times n i p)
   unfolding Gives _>>=_ times
-  gives-times P zero p g = (refl, tt)
-  gives-times {A} P (suc n) p g =
-      gives-bind P (λ l. (length l ≡ suc n) × Every P l) p (λ a. times n p >>= (λ l. done (a ∷ l))) g
-      (λ a x. gives-bind (λ (l : List A). (length l ≡ n) × Every P l) (λ l. (length l ≡ suc n) × Every P l) (times n p) (λ l. done (a ∷ l)) (gives-times P n p g) (λ l y. (ap suc (y .0), (x, y .1))))
+  gives-times P zero i p g = (refl, tt)
+  gives-times {A} P (suc n) i p g =
+      gives-bind P (λ l. (length l ≡ suc n) × Every P l) (p i) (λ a. times n (i + 1) p >>= (λ l. done (a ∷ l))) (g i)
+      (λ a x. gives-bind (λ (l : List A). (length l ≡ n) × Every P l) (λ l. (length l ≡ suc n) × Every P l) (times n (i + 1) p) (λ l. done (a ∷ l)) (gives-times P n (i + 1) p g) (λ l y. (ap suc (y .0), (x, y .1))))
 
   -- a count that was read has room
   pub gives-count : (t : Table) (f : ℕ) → Gives W room (λ n. n ≤ room t) (count t f)
   unfolding Gives _>>=_ count
   gives-count t f = λ p v x. go p v
     where
-      go : (p : ℕ) (v : ℤ) → Gives W room (λ n. n ≤ room t) (natural f p v >>= (λ n. need t n f p (done n)))
+      go : (p : ℕ) (v : ℤ) → Gives W room (λ n. n ≤ room t) (natural (spot f 0) p v >>= (λ n. need t n (spot f 0) p (done n)))
       go p (pos n) = λ h. h
       go p (negsuc n) = tt
 
@@ -98,7 +98,7 @@ module _ (W : ℤ → Type 0) (room : Table → ℕ) where
   weaker P Q h (here k) g = λ p. weaker P Q h (k p) (g p)
 
   -- so many records as were counted
-  pub gives-counted : {A : Type 0} (t : Table) (f : ℕ) (p : Prog A) → Gives W room (λ l. length l ≤ room t) (count t f >>= (λ n. times n p))
+  pub gives-counted : {A : Type 0} (t : Table) (f : ℕ) (p : ℕ → Prog A) → Gives W room (λ l. length l ≤ room t) (count t f >>= (λ n. times n 0 p))
   gives-counted {A} t f p =
-      gives-bind (λ n. n ≤ room t) (λ (l : List A). length l ≤ room t) (count t f) (λ n. times n p) (gives-count t f)
-      (λ n h. weaker (λ l. (length l ≡ n) × Every Any l) (λ l. length l ≤ room t) (λ l x. omega (arith, x .0)) (times n p) (gives-times Any n p (gives-any p)))
+      gives-bind (λ n. n ≤ room t) (λ (l : List A). length l ≤ room t) (count t f) (λ n. times n 0 p) (gives-count t f)
+      (λ n h. weaker (λ l. (length l ≡ n) × Every Any l) (λ l. length l ≤ room t) (λ l x. omega (arith, x .0)) (times n 0 p) (gives-times Any n 0 p (λ i. gives-any (p i))))

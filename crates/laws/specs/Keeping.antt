@@ -8,7 +8,7 @@ use lib.IntN.{ℤ, pos}
 use lib.ListN.{length, getD}
 use mir.Syntax.{w32}
 use mir.Val.{SFits}
-use Rattle.format.specs.Reading.{Table, ok, run, times, get, index, count, _>>=_}
+use Rattle.format.specs.Reading.{Table, ok, run, times, spot, get, index, count, _>>=_}
 use Rattle.format.specs.Sets.{Range, keep, holds, rangesOf}
 use Rattle.format.specs.Sections.{Read, eof, version, grammar, states, flags, rules, modes, interval, flagged, set, setsFrom, sets, edges, decisions, actions}
 use Rattle.format.specs.Links.{each}
@@ -36,23 +36,23 @@ unfolding Fit1
 fit-all [] h = tt
 fit-all (r ∷ l) h = (h .0 .0, (h .0 .1, fit-all l (h .1)))
 
-interval-fit : (room : Table → ℕ) → Gives W room Fit1 interval
+interval-fit : (room : Table → ℕ) (i : ℕ) → Gives W room Fit1 (interval i)
 unfolding Fit1 interval get Gives _>>=_
-interval-fit room = λ p v x q w y. (x, y)
+interval-fit room i = λ p v x q w y. (x, y)
 
-set-sorted : (room : Table → ℕ) (kept : ℕ) → Gives W room Sorted (set kept)
+set-sorted : (room : Table → ℕ) (i kept : ℕ) → Gives W room Sorted (set i kept)
 unfolding set
-set-sorted room kept =
-    then W room Sorted (index 19) _ (λ n. then W room Sorted (flagged kept n) _ (λ b.
-    gives-bind W room (λ (l : List Range). (length l ≡ n) × Every Fit1 l) Sorted (times n interval) _ (gives-times W room Fit1 n interval (interval-fit room)) (λ l x.
+set-sorted room i kept =
+    then W room Sorted (index (spot 19 i)) _ (λ n. then W room Sorted (flagged i kept n) _ (λ b.
+    gives-bind W room (λ (l : List Range). (length l ≡ n) × Every Fit1 l) Sorted (times n 0 (λ j. interval i)) _ (gives-times W room Fit1 n 0 (λ j. interval i) (λ j. interval-fit room i)) (λ l x.
     gives-done W room Sorted (keep (eof b ++ l)) (record { canonical = keep-canonical (eof b ++ l); fit = keep-fit (eof b ++ l) (fit-eof b l (fit-all l (x .1))) }))))
 
-sets-sorted : (room : Table → ℕ) (n kept : ℕ) → Gives W room (Every Sorted) (setsFrom n kept)
+sets-sorted : (room : Table → ℕ) (n i kept : ℕ) → Gives W room (Every Sorted) (setsFrom n i kept)
 unfolding setsFrom
-sets-sorted room zero kept = gives-done W room (Every Sorted) [] tt
-sets-sorted room (suc n) kept =
-    gives-bind W room Sorted (Every Sorted) (set kept) _ (set-sorted room kept) (λ s x.
-    gives-bind W room (Every Sorted) (Every Sorted) (setsFrom n (kept + length s)) _ (sets-sorted room n (kept + length s)) (λ l y.
+sets-sorted room zero i kept = gives-done W room (Every Sorted) [] tt
+sets-sorted room (suc n) i kept =
+    gives-bind W room Sorted (Every Sorted) (set i kept) _ (set-sorted room i kept) (λ s x.
+    gives-bind W room (Every Sorted) (Every Sorted) (setsFrom n (i + 1) (kept + length s)) _ (sets-sorted room n (i + 1) (kept + length s)) (λ l y.
     gives-done W room (Every Sorted) (s ∷ l) (x, y)))
 
 abbrev SetsSorted : Read → Type 0
@@ -61,9 +61,9 @@ SetsSorted r = Every Sorted (r .sets)
 dialect-sorted : (room : Table → ℕ) → Gives W room SetsSorted dialect
 unfolding dialect sets
 dialect-sorted room =
-    then W room SetsSorted version _ (λ a. then W room SetsSorted grammar _ (λ b. then W room SetsSorted (get 3) _ (λ token. then W room SetsSorted states _ (λ ss.
+    then W room SetsSorted version _ (λ a. then W room SetsSorted grammar _ (λ b. then W room SetsSorted (get (spot 3 0)) _ (λ token. then W room SetsSorted states _ (λ ss.
     then W room SetsSorted (flags (length ss) 9) _ (λ ones. then W room SetsSorted (flags (length ss) 11) _ (λ twos. then W room SetsSorted rules _ (λ rs. then W room SetsSorted modes _ (λ ms.
-    gives-bind W room (Every Sorted) SetsSorted sets _ (gives-bind W room Any (Every Sorted) (count Rattle.format.specs.Reading.Sets 18) _ (gives-any W room (count Rattle.format.specs.Reading.Sets 18)) (λ n x. sets-sorted room n 0)) (λ ls s.
+    gives-bind W room (Every Sorted) SetsSorted sets _ (gives-bind W room Any (Every Sorted) (count Rattle.format.specs.Reading.Sets 18) _ (gives-any W room (count Rattle.format.specs.Reading.Sets 18)) (λ n x. sets-sorted room n 0 0)) (λ ls s.
     then W room SetsSorted (edges (length ss) (length ls)) _ (λ es. then W room SetsSorted (returning ss (length rs) es) _ (λ es2. then W room SetsSorted decisions _ (λ ds. then W room SetsSorted actions _ (λ xs.
     gives-done W room SetsSorted _ s)))))))))))))
 

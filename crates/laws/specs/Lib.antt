@@ -17,6 +17,9 @@ pub mod Demand3
 pub mod Safe
 pub mod Chains
 pub mod Asked
+pub mod Kinds
+pub mod Walk
+pub mod Turns
 pub mod Refusals
 pub mod Grows
 pub mod Own

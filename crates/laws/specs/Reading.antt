@@ -9,6 +9,7 @@ use lib.IntN.{ℤ, pos}
 use lib.ListN.{length, getD, length-append, List·getD-append}
 use borrow.Author.Tests.{lt-ltb, le-ltb, ltb-true, ltb-false, leb-true, le-leb}
 use Rattle.format.specs.declared.Refusal.{Refusal}
+use Rattle.format.specs.declared.Spot.{Spot}
 use Rattle.format.specs.Reading.{Table, Outcome, ok, no, Prog, done, refuse, word, need, here, run, ended, noRoom, pick}
 
 pub clash : {A : Type 0} {a : A} {n : ℕ} {r : Refusal} {X : Type 0} → ok a n ≡ no r → X
@@ -22,7 +23,7 @@ pub record Agree (ws vs : List ℤ) (n : ℕ) : Type 0 where
   pub words : (i : ℕ) → i < n → getD vs i (pos 0) ≡ getD ws i (pos 0)
 
 -- what comes of a program's first word, and of its first need
-module _ {A : Type 0} (f : ℕ) (k : ℕ → ℤ → Prog A) (ws : List ℤ) (room : Table → ℕ) (at : ℕ) where
+module _ {A : Type 0} (f : Spot) (k : ℕ → ℤ → Prog A) (ws : List ℤ) (room : Table → ℕ) (at : ℕ) where
   pub word-ok : at < length ws → run (word f k) ws room at ≡ run (k at (getD ws at (pos 0))) ws room (at + 1)
   unfolding run
   word-ok h = rw (lt-ltb at (length ws) h)
@@ -31,7 +32,7 @@ module _ {A : Type 0} (f : ℕ) (k : ℕ → ℤ → Prog A) (ws : List ℤ) (ro
   unfolding run
   word-no h = rw (le-ltb at (length ws) h)
 
-module _ {A : Type 0} (t : Table) (n f p : ℕ) (k : Prog A) (ws : List ℤ) (room : Table → ℕ) (at : ℕ) where
+module _ {A : Type 0} (t : Table) (n : ℕ) (f : Spot) (p : ℕ) (k : Prog A) (ws : List ℤ) (room : Table → ℕ) (at : ℕ) where
   pub need-ok : n ≤ room t → run (need t n f p k) ws room at ≡ run k ws room at
   unfolding run
   need-ok h = rw (le-leb n (room t) h)
@@ -91,14 +92,14 @@ again {A} (need t m f p k) ws vs room at {a} {n} e h g = go (again k ws vs room 
 again (here k) ws vs room at e h g = again (k at) ws vs room at e h g
 
 -- (b) a shorter run is refused as ended, at its own length
-pub cut : {A : Type 0} (p : Prog A) (ws vs : List ℤ) (room : Table → ℕ) (at : ℕ) {a : A} {n : ℕ} → run p ws room at ≡ ok a n → at ≤ length vs → length vs < n → Agree ws vs (length vs) → (f : ℕ) × (run p vs room at ≡ no (ended f (length vs)))
+pub cut : {A : Type 0} (p : Prog A) (ws vs : List ℤ) (room : Table → ℕ) (at : ℕ) {a : A} {n : ℕ} → run p ws room at ≡ ok a n → at ≤ length vs → length vs < n → Agree ws vs (length vs) → (f : Spot) × (run p vs room at ≡ no (ended f (length vs)))
 unfolding run
 cut (done b) ws vs room at {a} {n} e l h g = absurd (let q : at ≡ n = cc in omega arith)
 cut (refuse r) ws vs room at e l h g = clash (sym e)
 cut {A} (word f k) ws vs room at {a} {n} e l h g = go (cut (k at (getD ws at (pos 0))) ws vs room (at + 1)) (ltb at (length ws)) e (ltb at (length vs)) refl
   where
-    go : (run (k at (getD ws at (pos 0))) ws room (at + 1) ≡ ok a n → at + 1 ≤ length vs → length vs < n → Agree ws vs (length vs) → (f : ℕ) × (run (k at (getD ws at (pos 0))) vs room (at + 1) ≡ no (ended f (length vs))))
-        → (b : Bool) → pick b (run (k at (getD ws at (pos 0))) ws room (at + 1)) (no (ended f (length ws))) ≡ ok a n → (c : Bool) → ltb at (length vs) ≡ c → (f′ : ℕ) × (run (word f k) vs room at ≡ no (ended f′ (length vs)))
+    go : (run (k at (getD ws at (pos 0))) ws room (at + 1) ≡ ok a n → at + 1 ≤ length vs → length vs < n → Agree ws vs (length vs) → (f : Spot) × (run (k at (getD ws at (pos 0))) vs room (at + 1) ≡ no (ended f (length vs))))
+        → (b : Bool) → pick b (run (k at (getD ws at (pos 0))) ws room (at + 1)) (no (ended f (length ws))) ≡ ok a n → (c : Bool) → ltb at (length vs) ≡ c → (f′ : Spot) × (run (word f k) vs room at ≡ no (ended f′ (length vs)))
     go ih true q true u =
         let x : at < length vs = ltb-true at (length vs) u in
         let y = ih q (omega arith) h g in
@@ -107,7 +108,7 @@ cut {A} (word f k) ws vs room at {a} {n} e l h g = go (cut (k at (getD ws at (po
     go ih false q c u = clash (sym q)
 cut {A} (need t m f p k) ws vs room at {a} {n} e l h g = go (cut k ws vs room at) (leb m (room t)) refl e
   where
-    go : (run k ws room at ≡ ok a n → at ≤ length vs → length vs < n → Agree ws vs (length vs) → (f : ℕ) × (run k vs room at ≡ no (ended f (length vs)))) → (b : Bool) → leb m (room t) ≡ b → pick b (run k ws room at) (no (noRoom f p m)) ≡ ok a n → (f′ : ℕ) × (run (need t m f p k) vs room at ≡ no (ended f′ (length vs)))
+    go : (run k ws room at ≡ ok a n → at ≤ length vs → length vs < n → Agree ws vs (length vs) → (f : Spot) × (run k vs room at ≡ no (ended f (length vs)))) → (b : Bool) → leb m (room t) ≡ b → pick b (run k ws room at) (no (noRoom f p m)) ≡ ok a n → (f′ : Spot) × (run (need t m f p k) vs room at ≡ no (ended f′ (length vs)))
     go ih true u q = let y = ih q l h g in (y .0, need-ok t m f p k vs room at (leb-true m (room t) u) ∙ y .1)
     go ih false u q = clash (sym q)
 cut (here k) ws vs room at e l h g = cut (k at) ws vs room at e l h g

@@ -9,7 +9,7 @@ use lib.Dec.{ltb, leb, eqb}
 use lib.IntN.{ℤ, pos, negsuc}
 use lib.ListN.{length, List·getD-map}
 use borrow.Author.Tests.{leb-true, eqb-true, ltb-true}
-use Rattle.format.specs.Reading.{Table, Edges, ok, Prog, done, run, _>>=_, times, pick, fail, natural, known, listed, get, index, count}
+use Rattle.format.specs.Reading.{Table, Edges, ok, Prog, done, run, _>>=_, times, spot, pick, fail, natural, known, listed, get, index, count}
 use Rattle.format.specs.Sections.{State, Edge, Read, size, among, edgeOf, meaning, version, grammar, states, flags, rules, modes, sets, testA, testB, edge, edges, decisions, actions}
 use Rattle.format.specs.Links.{each, names, leaving, numbers, stateAt, stopOf, stops, returns, derived}
 use Rattle.format.specs.Tables.{derivedOf, edgesOf}
@@ -57,27 +57,27 @@ module _ (k s t : ℕ) (a b c : ℤ) where
 abbrev W : ℤ → Type 0
 W v = Unit {0}
 
-module _ (rooms : Table → ℕ) (nstates n : ℕ) where
-  known-type : (p : ℕ) (w : ℤ) → Gives W rooms (λ k. (1 ≤ k) × (k ≤ 10)) (known 8 1 10 26 p w)
+module _ (rooms : Table → ℕ) (nstates n i : ℕ) where
+  known-type : (p : ℕ) (w : ℤ) → Gives W rooms (λ k. (1 ≤ k) × (k ≤ 10)) (known 8 1 10 (spot 26 i) p w)
   unfolding Gives
   known-type p (pos k) = go (leb 1 k) (leb k 10) refl refl
     where
-      go : (x y : Bool) → leb 1 k ≡ x → leb k 10 ≡ y → Gives W rooms (λ k. (1 ≤ k) × (k ≤ 10)) (pick (x && y) (done k) (fail 8 26 p (pos k)))
+      go : (x y : Bool) → leb 1 k ≡ x → leb k 10 ≡ y → Gives W rooms (λ k. (1 ≤ k) × (k ≤ 10)) (pick (x && y) (done k) (fail 8 (spot 26 i) p (pos k)))
       go true true e f = (leb-true 1 k e, leb-true k 10 f)
       go true false e f = tt
       go false y e f = tt
   known-type p (negsuc k) = tt
 
-  set-listed : (p : ℕ) (a : ℤ) → Gives W rooms (λ j. names n a ≡ true) (natural 27 p a >>= listed 9 n 27 p)
+  set-listed : (p : ℕ) (a : ℤ) → Gives W rooms (λ j. names n a ≡ true) (natural (spot 27 i) p a >>= listed 9 n (spot 27 i) p)
   unfolding Gives _>>=_
   set-listed p (pos j) = go (ltb j n) refl
     where
-      go : (x : Bool) → ltb j n ≡ x → Gives W rooms (λ i. ltb j n ≡ true) (pick x (done j) (fail 9 27 p (pos j)))
+      go : (x : Bool) → ltb j n ≡ x → Gives W rooms (λ x. ltb j n ≡ true) (pick x (done j) (fail 9 (spot 27 i) p (pos j)))
       go true e = e
       go false e = tt
   set-listed p (negsuc j) = tt
 
-  a-tested : (k p : ℕ) (a : ℤ) → Gives W rooms (λ j. setting (pos k) ≡ true → names n a ≡ true) (testA n k p a)
+  a-tested : (k p : ℕ) (a : ℤ) → Gives W rooms (λ j. setting (pos k) ≡ true → names n a ≡ true) (testA i n k p a)
   unfolding testA
   a-tested k p a = go (among k (7 ∷ 8 ∷ [])) (sym (ap (λ (x : Bool). eqb k 7 || x) (or-false (eqb k 8))))
     where
@@ -85,35 +85,36 @@ module _ (rooms : Table → ℕ) (nstates n : ℕ) where
       Q j = setting (pos k) ≡ true → names n a ≡ true
 
       rest : Prog ℕ
-      rest = pick (among k (3 ∷ 4 ∷ 6 ∷ [])) (natural 27 p a) (done 0)
+      rest = pick (among k (3 ∷ 4 ∷ 6 ∷ [])) (natural (spot 27 i) p a) (done 0)
 
-      go : (x : Bool) → setting (pos k) ≡ x → Gives W rooms Q (pick x (natural 27 p a >>= listed 9 n 27 p) rest)
-      go true e = weaker W rooms (λ j. names n a ≡ true) Q (λ j h f. h) (natural 27 p a >>= listed 9 n 27 p) (set-listed p a)
+      go : (x : Bool) → setting (pos k) ≡ x → Gives W rooms Q (pick x (natural (spot 27 i) p a >>= listed 9 n (spot 27 i) p) rest)
+      go true e = weaker W rooms (λ j. names n a ≡ true) Q (λ j h f. h) (natural (spot 27 i) p a >>= listed 9 n (spot 27 i) p) (set-listed p a)
       go false e = weaker W rooms Any Q (λ j u f. never e f) rest (gives-any W rooms rest)
 
-  source-listed : (p s : ℕ) → Gives W rooms (λ j. s < nstates) (listed 10 nstates 24 p s)
+  source-listed : (p s : ℕ) → Gives W rooms (λ j. s < nstates) (listed 10 nstates (spot 24 i) p s)
   unfolding Gives
   source-listed p s = go (ltb s nstates) refl
     where
-      go : (x : Bool) → ltb s nstates ≡ x → Gives W rooms (λ j. s < nstates) (pick x (done s) (fail 10 24 p (pos s)))
+      go : (x : Bool) → ltb s nstates ≡ x → Gives W rooms (λ j. s < nstates) (pick x (done s) (fail 10 (spot 24 i) p (pos s)))
       go true e = ltb-true s nstates e
       go false e = tt
 
-  pub edge-sound : Gives W rooms (Sound nstates n) (edge nstates n)
+  pub edge-sound : Gives W rooms (Sound nstates n) (edge nstates n i)
   unfolding edge Gives
   edge-sound = λ place.
-      then W rooms (Sound nstates n) (index 24) _ (λ s. then W rooms (Sound nstates n) (index 25) _ (λ t. then W rooms (Sound nstates n) (get 26) _ (λ w.
-      then W rooms (Sound nstates n) (get 27) _ (λ a. then W rooms (Sound nstates n) (get 28) _ (λ b. then W rooms (Sound nstates n) (get 29) _ (λ c.
-      gives-bind W rooms (λ k. (1 ≤ k) × (k ≤ 10)) (Sound nstates n) (known 8 1 10 26 (place + 2) w) _ (known-type (place + 2) w) (λ k h.
-      gives-bind W rooms (λ j. setting (pos k) ≡ true → names n a ≡ true) (Sound nstates n) (testA n k (place + 3) a) _ (a-tested k (place + 3) a) (λ x g.
-      then W rooms (Sound nstates n) (testB k (place + 4) b) _ (λ y. gives-bind W rooms (λ j. s < nstates) (Sound nstates n) (listed 10 nstates 24 place s) _ (source-listed place s) (λ z l.
+      then W rooms (Sound nstates n) (index (spot 24 i)) _ (λ s. then W rooms (Sound nstates n) (index (spot 25 i)) _ (λ t. then W rooms (Sound nstates n) (get (spot 26 i)) _ (λ w.
+      then W rooms (Sound nstates n) (get (spot 27 i)) _ (λ a. then W rooms (Sound nstates n) (get (spot 28 i)) _ (λ b. then W rooms (Sound nstates n) (get (spot 29 i)) _ (λ c.
+      gives-bind W rooms (λ k. (1 ≤ k) × (k ≤ 10)) (Sound nstates n) (known 8 1 10 (spot 26 i) (place + 2) w) _ (known-type (place + 2) w) (λ k h.
+      gives-bind W rooms (λ j. setting (pos k) ≡ true → names n a ≡ true) (Sound nstates n) (testA i n k (place + 3) a) _ (a-tested k (place + 3) a) (λ x g.
+      then W rooms (Sound nstates n) (testB i k (place + 4) b) _ (λ y. gives-bind W rooms (λ j. s < nstates) (Sound nstates n) (listed 10 nstates (spot 24 i) place s) _ (source-listed place s) (λ z l.
       gives-done W rooms (Sound nstates n) (meaning k s t a b c) (meant-sound k s t a b c nstates n h g l)))))))))))
 
+module _ (rooms : Table → ℕ) (nstates n : ℕ) where
   pub edges-sound : Gives W rooms (Every (Sound nstates n)) (edges nstates n)
   unfolding edges
   edges-sound =
       then W rooms (Every (Sound nstates n)) (count Edges 23) _ (λ k.
-      weaker W rooms (λ l. (length l ≡ k) × Every (Sound nstates n) l) (Every (Sound nstates n)) (λ l x. x .1) (times k (edge nstates n)) (gives-times W rooms (Sound nstates n) k (edge nstates n) edge-sound))
+      weaker W rooms (λ l. (length l ≡ k) × Every (Sound nstates n) l) (Every (Sound nstates n)) (λ l x. x .1) (times k 0 (edge nstates n)) (gives-times W rooms (Sound nstates n) k 0 (edge nstates n) (edge-sound rooms nstates n)))
 
 abbrev AllSound : Read → Type 0
 AllSound r = Every (Sound (length (r .states)) (length (r .sets))) (r .edges)
@@ -121,7 +122,7 @@ AllSound r = Every (Sound (length (r .states)) (length (r .sets))) (r .edges)
 dialect-sound : (rooms : Table → ℕ) → Gives W rooms AllSound dialect
 unfolding dialect
 dialect-sound rooms =
-    then W rooms AllSound version _ (λ a. then W rooms AllSound grammar _ (λ b. then W rooms AllSound (get 3) _ (λ token.
+    then W rooms AllSound version _ (λ a. then W rooms AllSound grammar _ (λ b. then W rooms AllSound (get (spot 3 0)) _ (λ token.
     then W rooms AllSound states _ (λ ss. then W rooms AllSound (flags (length ss) 9) _ (λ ones. then W rooms AllSound (flags (length ss) 11) _ (λ twos.
     then W rooms AllSound rules _ (λ rs. then W rooms AllSound modes _ (λ ms. then W rooms AllSound sets _ (λ ls.
     gives-bind W rooms (Every (Sound (length ss) (length ls))) AllSound (edges (length ss) (length ls)) _ (edges-sound rooms (length ss) (length ls)) (λ es h.

@@ -5,10 +5,10 @@ use native.Mathlib.Omega.{arith}
 use lib.IntN.{pos}
 use Rattle.inplace.specs.Rows.{wordOf, stored}
 use Rattle.inplace.specs.Links.{Net, net, firstOr}
-use Rattle.tables.specs.Words.{spot}
+use Rattle.tables.specs.Words.{numberOf}
 use Rattle.links.specs.Numbers.{names-yes, names-size, names-no}
 
-module _ (i s : ℕ) (t : Net) {last : ℕ} (e : last ≡ spot (wordOf 8 (t .states) s 6)) where
+module _ (i s : ℕ) (t : Net) {last : ℕ} (e : last ≡ numberOf (wordOf 8 (t .states) s 6)) where
   pub first-next : last < i → i < 2 ^ 31 → firstOr i s t ≡ net (t .states) (stored 8 (t .edges) last 7 (pos i))
   first-next h b =
       let z = wordOf 8 (t .states) s 6 in

@@ -9,20 +9,20 @@ use Rattle.format.specs.Reading.{pick}
 use Rattle.format.specs.Sections.{same, size}
 use Rattle.format.specs.Links.{names}
 use Rattle.inplace.specs.Rows.{oneMore}
-use Rattle.tables.specs.Words.{spot, spot-word}
+use Rattle.tables.specs.Words.{numberOf, number-word}
 use Rattle.words.specs.Signs.{signOf}
 use Rattle.words.specs.Laws.{natural-size}
 use Rattle.words.specs.declared.Sign.the-variants.{Natural, Negative}
 
-module _ (z : ℤ) {i : ℕ} (n : ℕ) (e : i ≡ spot z) where
+module _ (z : ℤ) {i : ℕ} (n : ℕ) (e : i ≡ numberOf z) where
   -- a number below n, of at most so many as any table has
   pub names-yes : i < n → n ≤ 2 ^ 31 → names n z ≡ true
-  names-yes h b = rw (spot-word z i (sym e) (omega arith)) (lt-ltb i n h)
+  names-yes h b = rw (number-word z i (sym e) (omega arith)) (lt-ltb i n h)
 
   pub names-size : i < n → n ≤ 2 ^ 31 → size z ≡ i
-  names-size h b = rw (spot-word z i (sym e) (omega arith)) refl
+  names-size h b = rw (number-word z i (sym e) (omega arith)) refl
 
-pub names-no : (z : ℤ) {i : ℕ} (n : ℕ) → i ≡ spot z → n ≤ i → names n z ≡ false
+pub names-no : (z : ℤ) {i : ℕ} (n : ℕ) → i ≡ numberOf z → n ≤ i → names n z ≡ false
 names-no (pos k) n e h = le-ltb k n (omega arith)
 names-no (negsuc k) n e h = refl
 
@@ -43,10 +43,10 @@ pick-end true x n f h = absurd (omega (arith, f refl))
 pick-end false x n f h = refl
 
 -- a number that is k, or is not
-pub same-yes : (z : ℤ) {i : ℕ} (k : ℕ) → i ≡ spot z → i ≡ k → k < 2 ^ 31 → same z (pos k) ≡ true
-same-yes z k e h b = rw (spot-word z k (sym e ∙ h) b) (eq-eqb k k refl)
+pub same-yes : (z : ℤ) {i : ℕ} (k : ℕ) → i ≡ numberOf z → i ≡ k → k < 2 ^ 31 → same z (pos k) ≡ true
+same-yes z k e h b = rw (number-word z k (sym e ∙ h) b) (eq-eqb k k refl)
 
-pub same-no : (z : ℤ) {i : ℕ} (k : ℕ) → i ≡ spot z → (i ≡ k → ⊥) → same z (pos k) ≡ false
+pub same-no : (z : ℤ) {i : ℕ} (k : ℕ) → i ≡ numberOf z → (i ≡ k → ⊥) → same z (pos k) ≡ false
 same-no (pos m) k e h = ne-eqb m k (λ q. h (e ∙ q))
 same-no (negsuc m) k e h = refl
 

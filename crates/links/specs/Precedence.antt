@@ -14,7 +14,7 @@ use Rattle.format.specs.Sections.{same, size}
 use Rattle.format.specs.Links.{names}
 use Rattle.inplace.specs.Rows.{wordOf, flagAt}
 use Rattle.inplace.specs.Links.{leadsTo, flagTwo, decidesAt, decidedIn}
-use Rattle.tables.specs.Words.{spot, numberAt}
+use Rattle.tables.specs.Words.{numberOf, numberAt}
 use Rattle.links.specs.Numbers.{names-yes, names-size, names-no, names-below, same-yes, same-no, pick-below, pick-end, and-both}
 
 -- The target of the edge e, if the edge leads to a state of the type t; else n.
@@ -50,13 +50,13 @@ decides-by-halves n m k ru ed st s =
 -- ---- the rule: the state's type, its rule, that rule's start
 
 module _ (n k : ℕ) (ru st : List ℤ) (s : ℕ) (states : n ≤ 65536) (rules : k ≤ 65536) {kind : ℕ} (is-kind : kind ≡ numberAt st (8 * s)) where
-  first : kind ≡ spot (wordOf 8 st s 0)
+  first : kind ≡ numberOf (wordOf 8 st s 0)
   first = rw add-zero is-kind
 
   pub no-decision : (kind ≡ 10 → ⊥) → recursiveAt n k ru st s ≡ false
   no-decision h = rw (same-no (wordOf 8 st s 0) 10 first h) refl
 
-  module _ (decision : kind ≡ 10) {R : ℕ} (is-rule : R ≡ spot (wordOf 8 st s 1)) where
+  module _ (decision : kind ≡ 10) {R : ℕ} (is-rule : R ≡ numberOf (wordOf 8 st s 1)) where
     yes : same (wordOf 8 st s 0) (pos 10) ≡ true
     yes = same-yes (wordOf 8 st s 0) 10 first decision (omega arith)
 
@@ -64,7 +64,7 @@ module _ (n k : ℕ) (ru st : List ℤ) (s : ℕ) (states : n ≤ 65536) (rules 
     unruled h = rw (yes, names-no (wordOf 8 st s 1) k is-rule h) refl
 
     module _ (ruled : R < k) {start : ℕ} (is-start : start ≡ numberAt ru (3 * R)) where
-      begins : start ≡ spot (wordOf 3 ru R 0)
+      begins : start ≡ numberOf (wordOf 3 ru R 0)
       begins = rw add-zero is-start
 
       listed : names k (wordOf 8 st s 1) ≡ true
@@ -83,11 +83,11 @@ module _ (n k : ℕ) (ru st : List ℤ) (s : ℕ) (states : n ≤ 65536) (rules 
 
 -- ---- the edges
 
-module _ (n m : ℕ) (st ed : List ℤ) (z : ℤ) (t : ℕ) (states : n ≤ 65536) (edges : m ≤ 65536) {e : ℕ} (is-edge : e ≡ spot z) where
+module _ (n m : ℕ) (st ed : List ℤ) (z : ℤ) (t : ℕ) (states : n ≤ 65536) (edges : m ≤ 65536) {e : ℕ} (is-edge : e ≡ numberOf z) where
   pub no-edge : m ≤ e → landing n m st ed z t ≡ n
   no-edge h = rw (names-no z m is-edge h) refl
 
-  module _ (edge : e < m) {target : ℕ} (is-target : target ≡ spot (wordOf 8 ed e 2)) where
+  module _ (edge : e < m) {target : ℕ} (is-target : target ≡ numberOf (wordOf 8 ed e 2)) where
     named : names m z ≡ true
     named = names-yes z m is-edge edge (omega arith)
 
@@ -98,7 +98,7 @@ module _ (n m : ℕ) (st ed : List ℤ) (z : ℤ) (t : ℕ) (states : n ≤ 6553
     no-target h = rw (named, its, names-no (wordOf 8 ed e 2) n is-target h) refl
 
     module _ (there : target < n) {kind : ℕ} (is-kind : kind ≡ numberAt st (8 * target)) where
-      type : kind ≡ spot (wordOf 8 st target 0)
+      type : kind ≡ numberOf (wordOf 8 st target 0)
       type = rw add-zero is-kind
 
       to : names n (wordOf 8 ed e 2) ≡ true

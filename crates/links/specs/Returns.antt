@@ -9,13 +9,13 @@ use native.Mathlib.Numerals.{add-one}
 use lib.IntN.{ℤ, pos}
 use lib.Dec.{ltb}
 use borrow.Author.Tests.{lt-ltb, le-ltb, ltb-true, ltb-false, le-leb, lt-leb}
-use Rattle.format.specs.Reading.{Table, Edges, ok, no, run, noRoom, pick}
+use Rattle.format.specs.Reading.{Table, Edges, ok, no, run, noRoom, spot, pick}
 use Rattle.format.specs.Sections.{same, size, bit, edgeOf}
 use Rattle.format.specs.Links.{names}
 use Rattle.inplace.specs.Held.{Held}
 use Rattle.inplace.specs.Rows.{wordOf}
 use Rattle.inplace.specs.Links.{Net, ruleOf, stopFor, returning, returnsOf, Growing, growing, linked, returned, returnsAlong, returnsFrom, returnsDone, returns}
-use Rattle.tables.specs.Words.{spot, numberAt}
+use Rattle.tables.specs.Words.{numberOf, numberAt}
 use Rattle.links.specs.Numbers.{names-yes, names-size, names-no, same-yes, same-no, names-below, pick-below, pick-end, and-both}
 
 -- Where the return edge of the edge e starts; n where it has none.
@@ -25,20 +25,20 @@ returnStop n k ru t e = pick (returning n k ru t e) (size (stopFor ru t e)) n
 -- ---- what is tested: its type, its target, that state's rule, that rule's stop
 
 module _ (n k : ℕ) (ru : List ℤ) (t : Net) (e : ℕ) (states : n ≤ 65536) (rules : k ≤ 65536) {kind : ℕ} (is-kind : kind ≡ numberAt (t .edges) (8 * e)) where
-  first : kind ≡ spot (wordOf 8 (t .edges) e 0)
+  first : kind ≡ numberOf (wordOf 8 (t .edges) e 0)
   first = rw add-zero is-kind
 
   pub no-rule-edge : (kind ≡ 3 → ⊥) → returnStop n k ru t e ≡ n
   no-rule-edge h = rw (same-no (wordOf 8 (t .edges) e 0) 3 first h) refl
 
-  module _ (rule-edge : kind ≡ 3) {target : ℕ} (is-target : target ≡ spot (wordOf 8 (t .edges) e 2)) where
+  module _ (rule-edge : kind ≡ 3) {target : ℕ} (is-target : target ≡ numberOf (wordOf 8 (t .edges) e 2)) where
     yes : same (wordOf 8 (t .edges) e 0) (pos 3) ≡ true
     yes = same-yes (wordOf 8 (t .edges) e 0) 3 first rule-edge (omega arith)
 
     pub no-target : n ≤ target → returnStop n k ru t e ≡ n
     no-target h = rw (yes, names-no (wordOf 8 (t .edges) e 2) n is-target h) refl
 
-    module _ (there : target < n) {R : ℕ} (is-rule : R ≡ spot (wordOf 8 (t .states) target 1)) where
+    module _ (there : target < n) {R : ℕ} (is-rule : R ≡ numberOf (wordOf 8 (t .states) target 1)) where
       to : names n (wordOf 8 (t .edges) e 2) ≡ true
       to = names-yes (wordOf 8 (t .edges) e 2) n is-target there (omega arith)
 
@@ -48,7 +48,7 @@ module _ (n k : ℕ) (ru : List ℤ) (t : Net) (e : ℕ) (states : n ≤ 65536) 
       pub no-rule : k ≤ R → returnStop n k ru t e ≡ n
       no-rule h = rw (yes, to, its, names-no (wordOf 8 (t .states) target 1) k is-rule h) refl
 
-      module _ (ruled : R < k) {stop : ℕ} (is-stop : stop ≡ spot (wordOf 3 ru R 1)) where
+      module _ (ruled : R < k) {stop : ℕ} (is-stop : stop ≡ numberOf (wordOf 3 ru R 1)) where
         listed : names k (wordOf 8 (t .states) target 1) ≡ true
         listed = names-yes (wordOf 8 (t .states) target 1) k is-rule ruled (omega arith)
 
@@ -124,7 +124,7 @@ module _ (room n k : ℕ) (ru : List ℤ) (e : ℕ) (x : Growing) {stop : ℕ} (
       let q : size (stopFor ru (x .tables) e) ≡ stop = sym (is-stop ∙ rw y refl) in
       rw (y, lt-ltb (x .edges) room b, q) refl
 
-module _ (room n k : ℕ) (ru : List ℤ) (left : ℕ) (z : ℤ) {e : ℕ} (is-edge : e ≡ spot z) (x : Growing) where
+module _ (room n k : ℕ) (ru : List ℤ) (left : ℕ) (z : ℤ) {e : ℕ} (is-edge : e ≡ numberOf z) (x : Growing) where
   pub along-over : left ≡ 0 → returnsAlong room n k ru left z x ≡ x
   unfolding returnsAlong
   along-over q = rw q refl
@@ -156,6 +156,6 @@ module _ (room : ℕ) (ru : List ℤ) (h : Held Net) {d : ℕ} (counted : d ≡ 
   unfolding run returns
   returns-fit b = rw (← counted, is-room, le-leb (h .counts .edges + d) room b) refl
 
-  pub returns-no-room : room < h .counts .edges + d → run (returns room ru h) ws rooms at ≡ no (noRoom 23 at (h .counts .edges + d))
+  pub returns-no-room : room < h .counts .edges + d → run (returns room ru h) ws rooms at ≡ no (noRoom (spot 23 0) at (h .counts .edges + d))
   unfolding run returns
   returns-no-room b = rw (← counted, is-room, lt-leb (h .counts .edges + d) room b) refl

@@ -10,7 +10,7 @@ ghost use lib.ListN.{length};
 ghost use Rattle.format.specs.Reading.{pick};
 ghost use Rattle.inplace.specs.Rows.{wordOf, flagAt};
 ghost use Rattle.inplace.specs.Links.{flagTwo, decidesAt, decidedIn};
-ghost use Rattle.tables.specs.Words.{spot};
+ghost use Rattle.tables.specs.Words.{numberOf};
 ghost use Rattle.links.specs.Lent.{Listed};
 ghost use Rattle.links.specs.Precedence.{landing, recursiveAt, loopsAt};
 
@@ -44,7 +44,7 @@ fn recursive(states: &[i32], rules: &[i32], n: usize, k: usize, s: usize) -> boo
 // The target of the edge e, if it is a state of that type; else n.
 fn target_of(states: &[i32], edges: &[i32], n: usize, m: usize, e: usize, kind: usize) -> usize
     requires { ⌜ (Listed 8 n (length (now states))) × (Listed 8 m (length (now edges))) × (kind < 2 ^ 31) ⌝ }
-    ensures { λ r. ⌜ ((z : ℤ) → e ≡ spot z → r ≡ landing n m (now (states .entry)) (now (edges .entry)) z kind) ⌝ }
+    ensures { λ r. ⌜ ((z : ℤ) → e ≡ numberOf z → r ≡ landing n m (now (states .entry)) (now (edges .entry)) z kind) ⌝ }
 {
     if e >= m {
         return n;

@@ -16,6 +16,7 @@ ghost use Rattle.links.specs.Lent.{Listed, LentTo};
 ghost use Rattle.links.specs.Returns.{returnStop};
 use format::Counts;
 use format::Decoded;
+use format::Spot;
 
 // The state from which the return edge of the edge e starts; n where e has none.
 pub fn return_stop(
@@ -209,6 +210,14 @@ pub fn grow(
         add_all(states, edges, rules, n, k, room, m);
         Decoded::Accepted(with_derived(counts, d))
     } else {
-        Decoded::Refused(words::refused(12, 23, place, words::word_of(m + d)))
+        Decoded::Refused(words::refused(
+            12,
+            Spot {
+                field: 23,
+                record: 0,
+            },
+            place,
+            words::word_of(m + d),
+        ))
     }
 }

@@ -1,4 +1,4 @@
-// Names for the numbers of documents 01 and 02 that more than one program says: refusals and fields.
+// Names for the numbers of documents 01 and 02 that more than one program says: refusals, fields and records.
 
 use crate::onto;
 
@@ -76,5 +76,37 @@ pub fn field(fd: i32, field: u32) {
         early_field(fd, field);
     } else {
         late_field(fd, field);
+    }
+}
+
+// A record's number in its table.
+fn numbered(fd: i32, name: &[u8], record: usize) {
+    onto::text(fd, b"; ");
+    onto::text(fd, name);
+    onto::size(fd, record);
+}
+
+// A place in a list of single words.
+fn listed(fd: i32, name: &[u8], record: usize) {
+    numbered(fd, b"place ", record);
+    onto::text(fd, b" of the ");
+    onto::text(fd, name);
+    onto::text(fd, b" list");
+}
+
+// Which record a word of this field belongs to (document 02, R-2). The header, the counts and the derived edges belong to none, and of them
+// nothing is said.
+pub fn owner(fd: i32, field: u32, record: usize) {
+    match field {
+        5..=8 => numbered(fd, b"state ", record),
+        10 => listed(fd, b"non-greedy", record),
+        12 => listed(fd, b"precedence", record),
+        14..=15 => numbered(fd, b"rule ", record),
+        17 => listed(fd, b"mode", record),
+        19..=22 => numbered(fd, b"set ", record),
+        24..=29 => numbered(fd, b"edge ", record),
+        31 => listed(fd, b"decision", record),
+        33..=35 => numbered(fd, b"action ", record),
+        _ => {}
     }
 }

@@ -9,12 +9,14 @@ fn counted(fd: i32, name: &[u8], n: usize) {
     onto::size(fd, n);
 }
 
-// Number, meaning, field, place and value; where there is no room, also how much there was: both programs lend tables of as many records.
+// Number, meaning, record, field, place and value; where there is no room, also how much there was: both programs lend tables of as many
+// records.
 pub fn undecoded(fd: i32, name: &[u8], r: Refusal) {
     onto::text(fd, name);
     counted(fd, b": refused ", r.number as usize);
     onto::text(fd, b": ");
     names::refusal(fd, r.number);
+    names::owner(fd, r.field, r.record);
     counted(fd, b"; field ", r.field as usize);
     onto::text(fd, b" (");
     names::field(fd, r.field);

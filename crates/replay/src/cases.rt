@@ -1,5 +1,6 @@
 // One stored case after another. A case is, in words: the lengths of the nine slices; the number of words, and the words; the answer's
-// number. For 0: the eleven counts, and for each of the nine tables the number of its records' words, and these. Else: field, place, value.
+// number. For 0: the eleven counts, and for each of the nine tables the number of its records' words, and these. Else: field, place, value,
+// and the number of the record.
 // At last the number of the words that are written of the tables, and these; 0 where the list is refused.
 // A block of the file holds whole cases, and words of -1 behind them.
 
@@ -51,6 +52,7 @@ fn refusal_held(r: Refusal, list: &[i32], at: usize) -> bool {
         && same_count(r.number as usize, list, at, 0)
         && same_count(r.field as usize, list, at, 1)
         && same_count(r.place, list, at, 2)
+        && same_count(r.record, list, at, 4)
 }
 
 // The answer, held to the stored one.
@@ -132,7 +134,7 @@ fn answer_at(list: &[i32], at: usize) -> usize {
 
 // The answer that is stored at a place, held; its tables stand behind it.
 fn answered(answer: Decoded, list: &[i32], at: usize, accepted: bool) -> Sofar {
-    let behind = if accepted { 12 } else { 4 };
+    let behind = if accepted { 12 } else { 5 };
     Sofar {
         at: stored::behind(list, at, behind),
         same: answer_held(answer, list, at, accepted),

@@ -29,7 +29,7 @@ fn counts_of(answer: Decoded) -> Counts {
 
 // "16 exactly when the output is too short"; refusals "hold 0 in what isn't named".
 fn too_short(r: Refusal) -> bool {
-    r.number == 16 && r.field == 0 && r.place == 0 && r.value == 0
+    r.number == 16 && r.field == 0 && r.record == 0 && r.place == 0 && r.value == 0
 }
 
 // The number of the words, the words, and zeros behind them; 16 and zeros alone where the output is shorter than the words.

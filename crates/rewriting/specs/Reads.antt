@@ -7,7 +7,8 @@ use lib.Dec.{ltb, leb, eqb}
 use lib.IntN.{ℤ, pos, negsuc}
 use lib.ListN.{length, getD}
 use borrow.Author.Tests.{le-leb}
-use Rattle.format.specs.Reading.{Table, Prog, done, word, _>>=_, times, known, get, index, pick, fail, natural as naturally, listed as tested}
+use Rattle.format.specs.declared.Spot.{Spot}
+use Rattle.format.specs.Reading.{Table, Prog, done, word, _>>=_, spot, times, known, get, index, pick, fail, natural as naturally, listed as tested}
 use Rattle.format.specs.Sets.{Range, key, keep}
 use Rattle.format.specs.Sections.{State, stateOf, none, orNone, follows, eof, linked, following, state, named, flags, interval, flagged, set, setsFrom}
 use Rattle.format.specs.Links.{every}
@@ -26,9 +27,9 @@ from-kept b (x ∷ l) f = both (both (le-leb b (key (x .start)) (f .0)) (le-leb 
 
 module _ (room : Table → ℕ) where
   -- every member of a list that was read in turns
-  pub every-gives : {A : Type 0} (p : A → Bool) (n : ℕ) (q : Prog A) → Gives W room (λ a. p a ≡ true) q → Gives W room (λ l. every p l ≡ true) (times n q)
+  pub every-gives : {A : Type 0} (p : A → Bool) (n : ℕ) (q : ℕ → Prog A) → ((i : ℕ) → Gives W room (λ a. p a ≡ true) (q i)) → Gives W room (λ l. every p l ≡ true) (times n 0 q)
   every-gives {A} p n q g =
-      weaker W room (λ l. (length l ≡ n) × Every (λ a. p a ≡ true) l) (λ l. every p l ≡ true) (λ l x. all-every p l (x .1)) (times n q) (gives-times W room (λ a. p a ≡ true) n q g)
+      weaker W room (λ l. (length l ≡ n) × Every (λ a. p a ≡ true) l) (λ l. every p l ≡ true) (λ l x. all-every p l (x .1)) (times n 0 q) (gives-times W room (λ a. p a ≡ true) n 0 q g)
 
   -- ---- states
 
@@ -41,33 +42,33 @@ module _ (room : Table → ℕ) where
   no-link true = refl
   no-link false = refl
 
-  linked-gives : (n : ℕ) (t : Bool) (k : ℕ) (v : ℤ) → orAbsent v ≡ true → Gives W room (Follows (suc (suc n)) t k) (pick t (index 7 >>= (λ b. done (stateOf k v none (pos b)))) (index 8 >>= (λ e. done (stateOf k v (pos e) none))))
+  linked-gives : (i n : ℕ) (t : Bool) (k : ℕ) (v : ℤ) → orAbsent v ≡ true → Gives W room (Follows (suc (suc n)) t k) (pick t (index (spot 7 i) >>= (λ b. done (stateOf k v none (pos b)))) (index (spot 8 i) >>= (λ e. done (stateOf k v (pos e) none))))
   unfolding Gives _>>=_ index
-  linked-gives n true k v h = λ p w u. go p w
+  linked-gives i n true k v h = λ p w u. go p w
     where
-      go : (p : ℕ) (w : ℤ) → Gives W room (Follows (suc (suc n)) true k) (naturally 7 p w >>= (λ b. done (stateOf k v none (pos b))))
+      go : (p : ℕ) (w : ℤ) → Gives W room (Follows (suc (suc n)) true k) (naturally (spot 7 i) p w >>= (λ b. done (stateOf k v none (pos b))))
       go p (pos b) = record { kind = refl; rest = both h refl }
       go p (negsuc b) = tt
-  linked-gives n false k v h = λ p w u. go p w
+  linked-gives i n false k v h = λ p w u. go p w
     where
-      go : (p : ℕ) (w : ℤ) → Gives W room (Follows (suc (suc n)) false k) (naturally 8 p w >>= (λ e. done (stateOf k v (pos e) none)))
+      go : (p : ℕ) (w : ℤ) → Gives W room (Follows (suc (suc n)) false k) (naturally (spot 8 i) p w >>= (λ e. done (stateOf k v (pos e) none)))
       go p (pos b) = record { kind = refl; rest = both h refl }
       go p (negsuc b) = tt
 
-  following-gives : (n k : ℕ) → Gives W room (Follows n (eqb k 12) k) (following n k)
+  following-gives : (i n k : ℕ) → Gives W room (Follows n (eqb k 12) k) (following i n k)
   unfolding Gives _>>=_ following get linked
-  following-gives zero k = record { kind = refl; rest = both (no-link (eqb k 12)) (no-link (eqb k 12)) }
-  following-gives (suc zero) k = λ p v u. record { kind = refl; rest = both (no-link (eqb k 12)) (both (or-absent v) (no-link (eqb k 12))) }
-  following-gives (suc (suc n)) k = λ p v u. linked-gives n (eqb k 12) k (orNone v) (or-absent v)
+  following-gives i zero k = record { kind = refl; rest = both (no-link (eqb k 12)) (no-link (eqb k 12)) }
+  following-gives i (suc zero) k = λ p v u. record { kind = refl; rest = both (no-link (eqb k 12)) (both (or-absent v) (no-link (eqb k 12))) }
+  following-gives i (suc (suc n)) k = λ p v u. linked-gives i n (eqb k 12) k (orNone v) (or-absent v)
 
-  type-gives : Gives W room (λ k. leb k 12 ≡ true) (word 5 (known 6 0 12 5))
+  type-gives : (i : ℕ) → Gives W room (λ k. leb k 12 ≡ true) (word (spot 5 i) (known 6 0 12 (spot 5 i)))
   unfolding Gives
-  type-gives = λ p v u. go p v
+  type-gives i = λ p v u. go p v
     where
-      go : (p : ℕ) (v : ℤ) → Gives W room (λ k. leb k 12 ≡ true) (known 6 0 12 5 p v)
+      go : (p : ℕ) (v : ℤ) → Gives W room (λ k. leb k 12 ≡ true) (known 6 0 12 (spot 5 i) p v)
       go p (pos k) = go2 (leb 0 k) (leb k 12) refl
         where
-          go2 : (x y : Bool) → leb k 12 ≡ y → Gives W room (λ j. leb j 12 ≡ true) (pick (x && y) (done k) (fail 6 5 p (pos k)))
+          go2 : (x y : Bool) → leb k 12 ≡ y → Gives W room (λ j. leb j 12 ≡ true) (pick (x && y) (done k) (fail 6 (spot 5 i) p (pos k)))
           go2 true true e = e
           go2 true false e = tt
           go2 false y e = tt
@@ -79,15 +80,15 @@ module _ (room : Table → ℕ) where
       let g = subst (λ (j : ℕ). (absent (pick (eqb j 12) (x .end) (x .back)) && getD ((absent (x .rule) && absent (pick (eqb j 12) (x .back) (x .end))) ∷ (orAbsent (x .rule) && absent (pick (eqb j 12) (x .back) (x .end))) ∷ []) (getD follows j 0) (orAbsent (x .rule) && natural (pick (eqb j 12) (x .back) (x .end)))) ≡ true) (sym (f .kind)) (f .rest) in
       both (both a (left (absent (unlinked x)) _ g)) (right (absent (unlinked x)) _ g)
 
-  pub state-gives : Gives W room (λ x. stateRead x ≡ true) state
+  pub state-gives : (i : ℕ) → Gives W room (λ x. stateRead x ≡ true) (state i)
   unfolding state
-  state-gives =
-      gives-bind W room (λ k. leb k 12 ≡ true) (λ x. stateRead x ≡ true) (word 5 (known 6 0 12 5)) _ type-gives
-      (λ k h. weaker W room (Follows (getD follows k 0) (eqb k 12) k) (λ x. stateRead x ≡ true) (λ x f. state-read k x h f) (following (getD follows k 0) k) (following-gives (getD follows k 0) k))
+  state-gives i =
+      gives-bind W room (λ k. leb k 12 ≡ true) (λ x. stateRead x ≡ true) (word (spot 5 i) (known 6 0 12 (spot 5 i))) _ (type-gives i)
+      (λ k h. weaker W room (Follows (getD follows k 0) (eqb k 12) k) (λ x. stateRead x ≡ true) (λ x f. state-read k x h f) (following i (getD follows k 0) k) (following-gives i (getD follows k 0) k))
 
   -- ---- flags
 
-  pub named-gives : (n f : ℕ) → Gives W room (λ s. ltb s n ≡ true) (named n f)
+  pub named-gives : (n : ℕ) (f : Spot) → Gives W room (λ s. ltb s n ≡ true) (named n f)
   unfolding Gives _>>=_ named
   named-gives n f = λ p v u. go p v
     where
@@ -101,23 +102,23 @@ module _ (room : Table → ℕ) where
 
   pub flags-give : (n f : ℕ) → Gives W room (λ l. every (λ s. ltb s n) l ≡ true) (flags n f)
   unfolding flags
-  flags-give n f = then W room (λ l. every (λ s. ltb s n) l ≡ true) (index f) _ (λ k. every-gives (λ s. ltb s n) k (named n (f + 1)) (named-gives n (f + 1)))
+  flags-give n f = then W room (λ l. every (λ s. ltb s n) l ≡ true) (index (spot f 0)) _ (λ k. every-gives (λ s. ltb s n) k (λ i. named n (spot (f + 1) i)) (λ i. named-gives n (spot (f + 1) i)))
 
   -- ---- sets
 
   abbrev Kept : List Range → Type 0
   Kept l = kept 0 l ≡ true
 
-  set-gives : (k : ℕ) → Gives W room Kept (set k)
+  set-gives : (i k : ℕ) → Gives W room Kept (set i k)
   unfolding set
-  set-gives k =
-      then W room Kept (index 19) _ (λ n. then W room Kept (flagged k n) _ (λ b. then W room Kept (times n interval) _ (λ l.
+  set-gives i k =
+      then W room Kept (index (spot 19 i)) _ (λ n. then W room Kept (flagged i k n) _ (λ b. then W room Kept (times n 0 (λ j. interval i)) _ (λ l.
       gives-done W room Kept (keep (eof b ++ l)) (from-kept 0 (keep (eof b ++ l)) (keep-canonical (eof b ++ l))))))
 
-  pub sets-give : (n k : ℕ) → Gives W room (λ ls. every (kept 0) ls ≡ true) (setsFrom n k)
+  pub sets-give : (n i k : ℕ) → Gives W room (λ ls. every (kept 0) ls ≡ true) (setsFrom n i k)
   unfolding setsFrom
-  sets-give zero k = gives-done W room (λ ls. every (kept 0) ls ≡ true) [] refl
-  sets-give (suc n) k =
-      gives-bind W room Kept (λ ls. every (kept 0) ls ≡ true) (set k) _ (set-gives k) (λ s x.
-      gives-bind W room (λ ls. every (kept 0) ls ≡ true) (λ ls. every (kept 0) ls ≡ true) (setsFrom n (k + length s)) _ (sets-give n (k + length s)) (λ l y.
+  sets-give zero i k = gives-done W room (λ ls. every (kept 0) ls ≡ true) [] refl
+  sets-give (suc n) i k =
+      gives-bind W room Kept (λ ls. every (kept 0) ls ≡ true) (set i k) _ (set-gives i k) (λ s x.
+      gives-bind W room (λ ls. every (kept 0) ls ≡ true) (λ ls. every (kept 0) ls ≡ true) (setsFrom n (i + 1) (k + length s)) _ (sets-give n (i + 1) (k + length s)) (λ l y.
       gives-done W room (λ ls. every (kept 0) ls ≡ true) (s ∷ l) (rw x y)))

@@ -6,7 +6,7 @@ use mathlib.Core.Logic.{_↔_, ⊎-elim}
 use Prim.Native.Nat.{ℕ, _-_, _*_, _/_, _≤_, _<_}
 use native.Mathlib.Omega.{arith}
 use lib.Dec.{ltb}
-use lib.IntN.{ℤ, pos}
+use lib.IntN.{ℤ}
 use lib.ListN.{length, length-append}
 use lib.Seq.{take-at, drop-at}
 use borrow.Author.Tests.{lt-ltb, le-ltb, le-leb}
@@ -15,7 +15,7 @@ use Rattle.format.specs.declared.Decoded.the-variants as D
 use Rattle.format.specs.declared.Written.{Written}
 use Rattle.format.specs.declared.Written.the-variants as W
 use Rattle.format.specs.Answers.{ofWritten}
-use Rattle.format.specs.Reading.{Outcome, ok, run, refusal, Table, States, Edges, Ranges, Sets, Rules, Modes, Decisions, Actions, Scratch, pick}
+use Rattle.format.specs.Reading.{Outcome, ok, run, bare, Table, States, Edges, Ranges, Sets, Rules, Modes, Decisions, Actions, Scratch, pick}
 use Rattle.format.specs.Sections.{Read, bit}
 use Rattle.format.specs.Links.{flat}
 use Rattle.format.specs.Tables.{nine, width, room, derivedOf, edgesOf, stateWords, edgeWords, rangeWords, ruleWords, stateWord, actionWords, records, table, zeros, countsOf}
@@ -80,7 +80,7 @@ module _ (tables : Table → List ℤ) (counts : Table → ℕ) (token : ℤ) (m
 
 module _ (tables : Table → List ℤ) (counts : Table → ℕ) (token : ℤ) (m : ℕ) (a : Writing) (h : Writes tables counts token m a) where
   -- an answer other than 15 is given of what can be written alone
-  pub not-fifteen : (a .told ≡ W.Refused (refusal 15 0 0 (pos 0)) → ⊥) → Writable tables counts
+  pub not-fifteen : (a .told ≡ W.Refused (bare 15) → ⊥) → Writable tables counts
   not-fifteen never = go (inside tables counts && comes (given tables counts) token) refl
     where
       go : (b : Bool) → (inside tables counts && comes (given tables counts) token) ≡ b → Writable tables counts
@@ -88,24 +88,24 @@ module _ (tables : Table → List ℤ) (counts : Table → ℕ) (token : ℤ) (m
       go false e = absurd (never (ap (λ (x : Writing). x .told) (h .fifteen (λ w. let z : _≡_ {A = ℕ} (bit true) (bit false) = ap bit (sym (test-exactly tables counts token m .1 w) ∙ e) in omega arith))))
 
   -- 15 is given of nothing that can be written
-  pub fifteen-only : a .told ≡ W.Refused (refusal 15 0 0 (pos 0)) → Writable tables counts → ⊥
+  pub fifteen-only : a .told ≡ W.Refused (bare 15) → Writable tables counts → ⊥
   fifteen-only e w =
       ⊎-elim
       (λ (k : length (wordsFor tables counts token) ≤ m). other (sym e ∙ ap (λ (x : Writing). x .told) (h .words w k)))
       (λ k. another (sym e ∙ ap (λ (x : Writing). x .told) (h .sixteen w k)))
       (order (length (wordsFor tables counts token)) m)
     where
-      other : {i : ℕ} → W.Refused (refusal 15 0 0 (pos 0)) ≡ W.Wrote i → ⊥
+      other : {i : ℕ} → W.Refused (bare 15) ≡ W.Wrote i → ⊥
       other q = let z : _≡_ {A = ℕ} 0 1 = cc in omega arith
 
-      another : W.Refused (refusal 15 0 0 (pos 0)) ≡ W.Refused (refusal 16 0 0 (pos 0)) → ⊥
+      another : W.Refused (bare 15) ≡ W.Refused (bare 16) → ⊥
       another q = let z = ap (λ (w : Written). ofWritten w .number) q in omega arith
 
   -- what was written can be, and is those words
   pub wrote-writable : {n : ℕ} → a .told ≡ W.Wrote n → Writable tables counts
   wrote-writable {n} e = not-fifteen (λ q. other (sym e ∙ q))
     where
-      other : {i : ℕ} → W.Wrote i ≡ W.Refused (refusal 15 0 0 (pos 0)) → ⊥
+      other : {i : ℕ} → W.Wrote i ≡ W.Refused (bare 15) → ⊥
       other q = let z : _≡_ {A = ℕ} 0 1 = cc in omega arith
 
   pub wrote-words : {n : ℕ} → a .told ≡ W.Wrote n → a ≡ wrote (wordsFor tables counts token) m
@@ -113,17 +113,17 @@ module _ (tables : Table → List ℤ) (counts : Table → ℕ) (token : ℤ) (m
       let w = wrote-writable e in
       ⊎-elim (h .words w) (λ k. absurd (other (sym e ∙ ap (λ (x : Writing). x .told) (h .sixteen w k)))) (order (length (wordsFor tables counts token)) m)
     where
-      other : {i : ℕ} → W.Wrote i ≡ W.Refused (refusal 16 0 0 (pos 0)) → ⊥
+      other : {i : ℕ} → W.Wrote i ≡ W.Refused (bare 16) → ⊥
       other q = let z : _≡_ {A = ℕ} 0 1 = cc in omega arith
 
   -- 16 is given of what can be written alone, and where the output is too short
-  pub sixteen-only : a .told ≡ W.Refused (refusal 16 0 0 (pos 0)) → Writable tables counts × (m < length (wordsFor tables counts token))
+  pub sixteen-only : a .told ≡ W.Refused (bare 16) → Writable tables counts × (m < length (wordsFor tables counts token))
   sixteen-only e = (w, ⊎-elim (λ (k : length (wordsFor tables counts token) ≤ m). absurd (other (sym e ∙ ap (λ (x : Writing). x .told) (h .words w k)))) (λ k. k) (order (length (wordsFor tables counts token)) m))
     where
-      other : {i : ℕ} → W.Refused (refusal 16 0 0 (pos 0)) ≡ W.Wrote i → ⊥
+      other : {i : ℕ} → W.Refused (bare 16) ≡ W.Wrote i → ⊥
       other q = let z : _≡_ {A = ℕ} 0 1 = cc in omega arith
 
-      another : W.Refused (refusal 16 0 0 (pos 0)) ≡ W.Refused (refusal 15 0 0 (pos 0)) → ⊥
+      another : W.Refused (bare 16) ≡ W.Refused (bare 15) → ⊥
       another q = let z = ap (λ (w : Written). ofWritten w .number) q in omega arith
 
       w : Writable tables counts

@@ -3,7 +3,7 @@ use mathlib.Core.Path.{_≡_, sym, _∙_}
 use mathlib.Core.List.{List}
 use Prim.Native.Nat.{ℕ, _+_}
 use lib.IntN.{ℤ}
-use Rattle.format.specs.Reading.{Table, ok, no, run, index, count}
+use Rattle.format.specs.Reading.{Table, ok, no, run, spot, index, count}
 use Rattle.format.specs.Tables.{width}
 use Rattle.format.specs.declared.Refusal.{Refusal}
 use Rattle.laws.specs.Running.{turns, ok-then, no-then}
@@ -30,19 +30,19 @@ module _ (t : Table) (h : Held (List ℤ)) (ws : List ℤ) (rooms : Table → �
         ∙ no-then (turns n 0 (puts (width t) (rowOf t)) (h .table)) (ended t (h .counts) n) ws rooms a f)
 
 module _ (b f : ℕ) (h : Held (List ℤ)) (ws : List ℤ) (rooms : Table → ℕ) (at : ℕ) where
-  pub flags-uncounted : {r : Refusal} → no r ≡ run (index f) ws rooms at → no r ≡ run (flagging b f h) ws rooms at
+  pub flags-uncounted : {r : Refusal} → no r ≡ run (index (spot f 0)) ws rooms at → no r ≡ run (flagging b f h) ws rooms at
   unfolding flagging
-  flags-uncounted e = sym (no-then (index f) (flagsFrom b f h) ws rooms at e)
+  flags-uncounted e = sym (no-then (index (spot f 0)) (flagsFrom b f h) ws rooms at e)
 
-  module _ {k a : ℕ} (e : ok k a ≡ run (index f) ws rooms at) where
+  module _ {k a : ℕ} (e : ok k a ≡ run (index (spot f 0)) ws rooms at) where
     pub flags-ok : {u : List ℤ} {m : ℕ} → ok u m ≡ run (turns k 0 (flagOne b (h .counts .states) (f + 1)) (h .table)) ws rooms a → ok (with (moved (h .counts) m) u) m ≡ run (flagging b f h) ws rooms at
     unfolding run flagging
     flags-ok g =
-        sym (ok-then (index f) (flagsFrom b f h) ws rooms at e
+        sym (ok-then (index (spot f 0)) (flagsFrom b f h) ws rooms at e
         ∙ ok-then (turns k 0 (flagOne b (h .counts .states) (f + 1)) (h .table)) (flagsEnd (h .counts)) ws rooms a g)
 
     pub flags-stop : {r : Refusal} → no r ≡ run (turns k 0 (flagOne b (h .counts .states) (f + 1)) (h .table)) ws rooms a → no r ≡ run (flagging b f h) ws rooms at
     unfolding flagging
     flags-stop g =
-        sym (ok-then (index f) (flagsFrom b f h) ws rooms at e
+        sym (ok-then (index (spot f 0)) (flagsFrom b f h) ws rooms at e
         ∙ no-then (turns k 0 (flagOne b (h .counts .states) (f + 1)) (h .table)) (flagsEnd (h .counts)) ws rooms a g)

@@ -5,13 +5,14 @@ use Prim.Native.Nat.{ℕ}
 use lib.IntN.{ℤ}
 use Rattle.format.specs.Reading.{Table, Outcome, ok, no, Prog, word, run, _>>=_, get}
 use Rattle.format.specs.declared.Refusal.{Refusal}
+use Rattle.format.specs.declared.Spot.{Spot}
 use Rattle.laws.specs.Running.{after, run-bind, ok-then, no-then}
 use Rattle.words.specs.Answers.{told}
 use Rattle.words.specs.declared.Step.{Step}
 use Rattle.words.specs.declared.Step.the-variants as S
 
 -- a word, and what its value leads to
-module _ {A : Type 0} (f : ℕ) (k : ℕ → ℤ → Prog A) (ws : List ℤ) (room : Table → ℕ) (at : ℕ) where
+module _ {A : Type 0} (f : Spot) (k : ℕ → ℤ → Prog A) (ws : List ℤ) (room : Table → ℕ) (at : ℕ) where
   word-is : run (word f k) ws room at ≡ run (get f >>= k at) ws room at
   unfolding run get _>>=_
   word-is = refl

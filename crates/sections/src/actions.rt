@@ -12,6 +12,7 @@ ghost use Rattle.format.specs.Sections.{among, action};
 ghost use Rattle.words.specs.Answers.{told};
 ghost use Rattle.sections.specs.Rows.{actionRow, decoded};
 use crate::records;
+use format::Spot;
 use words::Index;
 use words::Step;
 use words::Word;
@@ -39,13 +40,14 @@ fn decode_lexer_action(
     kind: i32,
     d1: i32,
     d2: i32,
+    record: usize,
     place: usize,
     next: usize,
 ) -> Step
     requires { ⌜ length (now part) ≡ 3 ⌝ }
-    ensures { λ r. ⌜ ((ws : List ℤ) (rooms : Table → ℕ) → told r (now (part .exit)) ≡ run (actionRow (decoded place kind d1 d2)) ws rooms next) ⌝ }
+    ensures { λ r. ⌜ ((ws : List ℤ) (rooms : Table → ℕ) → told r (now (part .exit)) ≡ run (actionRow (decoded «record» place kind d1 d2)) ws rooms next) ⌝ }
 {
-    match words::known(kind, 11, 0, 7, 33, place, next) {
+    match words::known(kind, 11, 0, 7, Spot { field: 33, record }, place, next) {
         Index::Got(k, end) => {
             records::write_three(
                 part,
@@ -60,14 +62,14 @@ fn decode_lexer_action(
 }
 
 // One action.
-pub fn deserialize_lexer_action(part: &mut [i32], words: &[i32], at: usize) -> Step
+pub fn deserialize_lexer_action(part: &mut [i32], record: usize, words: &[i32], at: usize) -> Step
     requires { ⌜ length (now part) ≡ 3 ⌝ }
-    ensures { λ r. ⌜ ((rooms : Table → ℕ) → told r (now (part .exit)) ≡ run (actionRow action) (now (words .entry)) rooms at) ⌝ }
+    ensures { λ r. ⌜ ((rooms : Table → ℕ) → told r (now (part .exit)) ≡ run (actionRow (action «record»)) (now (words .entry)) rooms at) ⌝ }
 {
-    match words::read(words, at, 33) {
-        Word::Got(kind, second) => match words::read(words, second, 34) {
-            Word::Got(d1, third) => match words::read(words, third, 35) {
-                Word::Got(d2, next) => decode_lexer_action(part, kind, d1, d2, at, next),
+    match words::read(words, at, Spot { field: 33, record }) {
+        Word::Got(kind, second) => match words::read(words, second, Spot { field: 34, record }) {
+            Word::Got(d1, third) => match words::read(words, third, Spot { field: 35, record }) {
+                Word::Got(d2, next) => decode_lexer_action(part, kind, d1, d2, record, at, next),
                 Word::Refused(r) => Step::Refused(r),
             },
             Word::Refused(r) => Step::Refused(r),

@@ -69,7 +69,7 @@ fn put_record(which: Section, table: &mut [i32], i: usize, words: &[i32], at: us
     let w = width_of(which);
     let from = w * i;
     let to = from + w;
-    records::deserialize_record(which, &mut table[from..to], words, at)
+    records::deserialize_record(which, &mut table[from..to], i, words, at)
 }
 
 // n records, one after another.

@@ -13,26 +13,27 @@ ghost use Rattle.inplace.specs.Sections as spec;
 ghost use Rattle.sections.specs.Tables.{StatesIn};
 use format::Counts;
 use format::Decoded;
+use format::Spot;
 use words::Index;
 use words::Step;
 
 // Field 10 or 12: one of the n states, else refusal 7.
-fn read_named(words: &[i32], at: usize, n: usize, field: u32) -> Index
-    ensures says { λ r. ⌜ ((rooms : Table → ℕ) → outcomeIx r ≡ run (named n field) (now (words .entry)) rooms at) ⌝ }
+fn read_named(words: &[i32], at: usize, n: usize, spot: Spot) -> Index
+    ensures says { λ r. ⌜ ((rooms : Table → ℕ) → outcomeIx r ≡ run (named n spot) (now (words .entry)) rooms at) ⌝ }
     ensures bounded { λ r. ⌜ Below n r ⌝ }
 {
-    match words::read_usize(words, at, field) {
-        Index::Got(s, next) => words::listed(s, 7, n, field, at, next),
+    match words::read_usize(words, at, spot) {
+        Index::Got(s, next) => words::listed(s, 7, n, spot, at, next),
         Index::Refused(r) => Index::Refused(r),
     }
 }
 
-// One state is named, and flagged.
-fn flag_one(states: &mut [i32], n: usize, bit: usize, words: &[i32], at: usize, field: u32) -> Step
+// The list's state at that spot is named, and flagged.
+fn flag_one(states: &mut [i32], n: usize, bit: usize, words: &[i32], at: usize, spot: Spot) -> Step
     requires { ⌜ (8 * n ≤ length (now states)) × (bit < 2 ^ 31) ⌝ }
-    ensures { λ r. ⌜ ((rooms : Table → ℕ) (i : ℕ) → told r (now (states .exit)) ≡ run (spec.flagOne bit n field i (now (states .entry))) (now (words .entry)) rooms at) ⌝ }
+    ensures { λ r. ⌜ ((rooms : Table → ℕ) → told r (now (states .exit)) ≡ run (spec.flagOne bit n (spot .field) (spot .record) (now (states .entry))) (now (words .entry)) rooms at) ⌝ }
 {
-    match read_named(words, at, n, field) {
+    match read_named(words, at, n, spot) {
         Index::Got(s, next) => {
             bits::set_flag(states, s, bit);
             Step::Next(next)
@@ -57,7 +58,7 @@ fn flag_all(
     let mut at = first;
     let mut i = 0;
     while i < k {
-        match flag_one(states, n, bit, words, at, field) {
+        match flag_one(states, n, bit, words, at, Spot { field, record: i }) {
             Step::Next(next) => {
                 at = next;
             }
@@ -92,7 +93,7 @@ fn flag_counted(
 {
     let at = counts.words;
     let n = counts.states;
-    match words::read_usize(words, at, field) {
+    match words::read_usize(words, at, Spot { field, record: 0 }) {
         Index::Got(k, first) => match flag_all(states, n, bit, k, words, first, field + 1) {
             Step::Next(end) => Decoded::Accepted(moved(counts, end)),
             Step::Refused(r) => Decoded::Refused(r),

@@ -9,6 +9,7 @@ ghost use Rattle.format.specs.Sections.{same, version, grammar};
 ghost use Rattle.words.specs.Answers.{outcome};
 ghost use Rattle.inplace.specs.Sections as spec;
 use format::Counts;
+use format::Spot;
 use words::Sign;
 use words::Word;
 
@@ -26,12 +27,16 @@ fn is_number(v: i32, n: usize) -> bool
 pub fn read_version(words: &[i32], at: usize) -> Word
     ensures { λ r. ⌜ ((rooms : Table → ℕ) → outcome r ≡ run version (now (words .entry)) rooms at) ⌝ }
 {
-    match words::read(words, at, 1) {
+    let spot = Spot {
+        field: 1,
+        record: 0,
+    };
+    match words::read(words, at, spot) {
         Word::Got(v, next) => {
             if is_number(v, 4) {
                 Word::Got(v, next)
             } else {
-                Word::Refused(words::refused(3, 1, at, v))
+                Word::Refused(words::refused(3, spot, at, v))
             }
         }
         Word::Refused(r) => Word::Refused(r),
@@ -42,15 +47,19 @@ pub fn read_version(words: &[i32], at: usize) -> Word
 pub fn read_grammar_type(words: &[i32], at: usize) -> Word
     ensures { λ r. ⌜ ((rooms : Table → ℕ) → outcome r ≡ run grammar (now (words .entry)) rooms at) ⌝ }
 {
-    match words::read(words, at, 2) {
+    let spot = Spot {
+        field: 2,
+        record: 0,
+    };
+    match words::read(words, at, spot) {
         Word::Got(v, next) => {
             if is_number(v, 0) {
                 return Word::Got(v, next);
             }
             if is_number(v, 1) {
-                return Word::Refused(words::refused(4, 2, at, v));
+                return Word::Refused(words::refused(4, spot, at, v));
             }
-            Word::Refused(words::refused(5, 2, at, v))
+            Word::Refused(words::refused(5, spot, at, v))
         }
         Word::Refused(r) => Word::Refused(r),
     }

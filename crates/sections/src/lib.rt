@@ -13,6 +13,7 @@ ghost use Rattle.inplace.specs.Held.{held, onward};
 ghost use Rattle.inplace.specs.Sections as spec;
 ghost use Rattle.sections.specs.Tables.{tableOf, StatesIn, RulesIn};
 use format::Decoded;
+use format::Spot;
 use words::Word;
 
 mod actions;
@@ -41,7 +42,14 @@ pub fn deserialize_header(words: &[i32], at: usize) -> Decoded
 {
     match header::read_version(words, at) {
         Word::Got(_, second) => match header::read_grammar_type(words, second) {
-            Word::Got(_, third) => match words::read(words, third, 3) {
+            Word::Got(_, third) => match words::read(
+                words,
+                third,
+                Spot {
+                    field: 3,
+                    record: 0,
+                },
+            ) {
                 Word::Got(token, next) => Decoded::Accepted(header::no_counts(token, next)),
                 Word::Refused(r) => Decoded::Refused(r),
             },

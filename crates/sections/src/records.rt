@@ -14,6 +14,7 @@ ghost use Rattle.sections.specs.Tables.{tableOf};
 use crate::Section;
 use crate::actions;
 use crate::states;
+use format::Spot;
 use words::Index;
 use words::Step;
 use words::Word;
@@ -29,12 +30,12 @@ pub fn write_three(part: &mut [i32], a: i32, b: i32, c: i32)
 }
 
 // Fields 14 and 15: a rule, whose stop is not known yet.
-fn deserialize_rule(part: &mut [i32], words: &[i32], at: usize) -> Step
+fn deserialize_rule(part: &mut [i32], record: usize, words: &[i32], at: usize) -> Step
     requires { ⌜ length (now part) ≡ 3 ⌝ }
-    ensures { λ r. ⌜ ((rooms : Table → ℕ) → told r (now (part .exit)) ≡ run (rowOf Rules) (now (words .entry)) rooms at) ⌝ }
+    ensures { λ r. ⌜ ((rooms : Table → ℕ) → told r (now (part .exit)) ≡ run (rowOf Rules «record») (now (words .entry)) rooms at) ⌝ }
 {
-    match words::read_usize(words, at, 14) {
-        Index::Got(start, next) => match words::read(words, next, 15) {
+    match words::read_usize(words, at, Spot { field: 14, record }) {
+        Index::Got(start, next) => match words::read(words, next, Spot { field: 15, record }) {
             Word::Got(token, end) => {
                 write_three(part, words::word_of(start), -1, token);
                 Step::Next(end)
@@ -46,11 +47,11 @@ fn deserialize_rule(part: &mut [i32], words: &[i32], at: usize) -> Step
 }
 
 // Field 17 or 31: a state's number.
-fn deserialize_number(part: &mut [i32], words: &[i32], at: usize, field: u32) -> Step
+fn deserialize_number(part: &mut [i32], words: &[i32], at: usize, spot: Spot) -> Step
     requires { ⌜ length (now part) ≡ 1 ⌝ }
-    ensures { λ r. ⌜ ((rooms : Table → ℕ) → told r (now (part .exit)) ≡ run (numberRow field) (now (words .entry)) rooms at) ⌝ }
+    ensures { λ r. ⌜ ((rooms : Table → ℕ) → told r (now (part .exit)) ≡ run (numberRow spot) (now (words .entry)) rooms at) ⌝ }
 {
-    match words::read_usize(words, at, field) {
+    match words::read_usize(words, at, spot) {
         Index::Got(s, next) => {
             part[0] = words::word_of(s);
             Step::Next(next)
@@ -59,16 +60,22 @@ fn deserialize_number(part: &mut [i32], words: &[i32], at: usize, field: u32) ->
     }
 }
 
-// One record.
-pub fn deserialize_record(which: Section, part: &mut [i32], words: &[i32], at: usize) -> Step
+// The i-th record.
+pub fn deserialize_record(
+    which: Section,
+    part: &mut [i32],
+    record: usize,
+    words: &[i32],
+    at: usize,
+) -> Step
     requires { ⌜ length (now part) ≡ width (tableOf which) ⌝ }
-    ensures { λ r. ⌜ ((rooms : Table → ℕ) → told r (now (part .exit)) ≡ run (rowOf (tableOf which)) (now (words .entry)) rooms at) ⌝ }
+    ensures { λ r. ⌜ ((rooms : Table → ℕ) → told r (now (part .exit)) ≡ run (rowOf (tableOf which) «record») (now (words .entry)) rooms at) ⌝ }
 {
     match which {
-        Section::States => states::deserialize_state(part, words, at),
-        Section::Rules => deserialize_rule(part, words, at),
-        Section::Modes => deserialize_number(part, words, at, 17),
-        Section::Decisions => deserialize_number(part, words, at, 31),
-        Section::Actions => actions::deserialize_lexer_action(part, words, at),
+        Section::States => states::deserialize_state(part, record, words, at),
+        Section::Rules => deserialize_rule(part, record, words, at),
+        Section::Modes => deserialize_number(part, words, at, Spot { field: 17, record }),
+        Section::Decisions => deserialize_number(part, words, at, Spot { field: 31, record }),
+        Section::Actions => actions::deserialize_lexer_action(part, record, words, at),
     }
 }

@@ -4,11 +4,12 @@
 ghost use mathlib.Core.Path.{_≡_};
 ghost use Prim.Native.Nat.{ℕ, _<_};
 ghost use lib.ListN.{length, getD};
-ghost use Rattle.format.specs.Reading.{Table, word, run, known};
+ghost use Rattle.format.specs.Reading.{Table, word, run, spot, known};
 ghost use Rattle.format.specs.Sections.{stateOf, follows, linked, following, state};
 ghost use Rattle.words.specs.Answers.{outcomeIx, told, Below};
 ghost use Rattle.inplace.specs.Rows.{stateRow};
 ghost use Rattle.sections.specs.Rows.{asRow};
+use format::Spot;
 use words::Index;
 use words::Step;
 use words::Word;
@@ -29,23 +30,31 @@ fn write_state(part: &mut [i32], kind: usize, rule: i32, end: i32, back: i32)
 }
 
 // The state's type: 0 to 12, else refusal 6.
-fn decode_state_kind(words: &[i32], at: usize) -> Index
-    ensures says { λ r. ⌜ ((rooms : Table → ℕ) → outcomeIx r ≡ run (word 5 (known 6 0 12 5)) (now (words .entry)) rooms at) ⌝ }
+fn decode_state_kind(record: usize, words: &[i32], at: usize) -> Index
+    ensures says { λ r. ⌜ ((rooms : Table → ℕ) → outcomeIx r ≡ run (word (spot 5 «record») (known 6 0 12 (spot 5 «record»))) (now (words .entry)) rooms at) ⌝ }
     ensures bounded { λ r. ⌜ Below 13 r ⌝ }
 {
-    match words::read(words, at, 5) {
-        Word::Got(v, next) => words::known(v, 6, 0, 12, 5, at, next),
+    let spot = Spot { field: 5, record };
+    match words::read(words, at, spot) {
+        Word::Got(v, next) => words::known(v, 6, 0, 12, spot, at, next),
         Word::Refused(r) => Index::Refused(r),
     }
 }
 
 // A state that two words follow, of which the rule's is read: the other is a loop back after type 12, else a block end.
-fn deserialize_link(part: &mut [i32], kind: usize, rule: i32, words: &[i32], at: usize) -> Step
+fn deserialize_link(
+    part: &mut [i32],
+    kind: usize,
+    rule: i32,
+    record: usize,
+    words: &[i32],
+    at: usize,
+) -> Step
     requires { ⌜ (length (now part) ≡ 8) × (kind < 13) ⌝ }
-    ensures { λ r. ⌜ ((rooms : Table → ℕ) → told r (now (part .exit)) ≡ run (asRow (linked kind rule)) (now (words .entry)) rooms at) ⌝ }
+    ensures { λ r. ⌜ ((rooms : Table → ℕ) → told r (now (part .exit)) ≡ run (asRow (linked «record» kind rule)) (now (words .entry)) rooms at) ⌝ }
 {
     if kind == 12 {
-        match words::read_usize(words, at, 7) {
+        match words::read_usize(words, at, Spot { field: 7, record }) {
             Index::Got(n, next) => {
                 write_state(part, kind, rule, -1, words::word_of(n));
                 Step::Next(next)
@@ -53,7 +62,7 @@ fn deserialize_link(part: &mut [i32], kind: usize, rule: i32, words: &[i32], at:
             Index::Refused(r) => Step::Refused(r),
         }
     } else {
-        match words::read_usize(words, at, 8) {
+        match words::read_usize(words, at, Spot { field: 8, record }) {
             Index::Got(n, next) => {
                 write_state(part, kind, rule, words::word_of(n), -1);
                 Step::Next(next)
@@ -68,45 +77,52 @@ fn deserialize_rule_index(
     part: &mut [i32],
     kind: usize,
     follow: usize,
+    record: usize,
     words: &[i32],
     at: usize,
 ) -> Step
     requires { ⌜ (length (now part) ≡ 8) × (kind < 13) × (0 < follow) ⌝ }
-    ensures { λ r. ⌜ ((rooms : Table → ℕ) → told r (now (part .exit)) ≡ run (asRow (following follow kind)) (now (words .entry)) rooms at) ⌝ }
+    ensures { λ r. ⌜ ((rooms : Table → ℕ) → told r (now (part .exit)) ≡ run (asRow (following «record» follow kind)) (now (words .entry)) rooms at) ⌝ }
 {
-    match words::read(words, at, 6) {
+    match words::read(words, at, Spot { field: 6, record }) {
         Word::Got(v, next) => {
             if follow == 1 {
                 write_state(part, kind, words::or_none(v), -1, -1);
                 return Step::Next(next);
             }
-            deserialize_link(part, kind, words::or_none(v), words, next)
+            deserialize_link(part, kind, words::or_none(v), record, words, next)
         }
         Word::Refused(r) => Step::Refused(r),
     }
 }
 
 // A state whose type is read.
-fn deserialize_following(part: &mut [i32], kind: usize, words: &[i32], at: usize) -> Step
+fn deserialize_following(
+    part: &mut [i32],
+    kind: usize,
+    record: usize,
+    words: &[i32],
+    at: usize,
+) -> Step
     requires { ⌜ (length (now part) ≡ 8) × (kind < 13) ⌝ }
-    ensures { λ r. ⌜ ((rooms : Table → ℕ) → told r (now (part .exit)) ≡ run (asRow (following (getD follows kind 0) kind)) (now (words .entry)) rooms at) ⌝ }
+    ensures { λ r. ⌜ ((rooms : Table → ℕ) → told r (now (part .exit)) ≡ run (asRow (following «record» (getD follows kind 0) kind)) (now (words .entry)) rooms at) ⌝ }
 {
     let follow = format::words_after(kind);
     if follow == 0 {
         write_state(part, kind, -1, -1, -1);
         Step::Next(at)
     } else {
-        deserialize_rule_index(part, kind, follow, words, at)
+        deserialize_rule_index(part, kind, follow, record, words, at)
     }
 }
 
 // One state.
-pub fn deserialize_state(part: &mut [i32], words: &[i32], at: usize) -> Step
+pub fn deserialize_state(part: &mut [i32], record: usize, words: &[i32], at: usize) -> Step
     requires { ⌜ length (now part) ≡ 8 ⌝ }
-    ensures { λ r. ⌜ ((rooms : Table → ℕ) → told r (now (part .exit)) ≡ run (asRow state) (now (words .entry)) rooms at) ⌝ }
+    ensures { λ r. ⌜ ((rooms : Table → ℕ) → told r (now (part .exit)) ≡ run (asRow (state «record»)) (now (words .entry)) rooms at) ⌝ }
 {
-    match decode_state_kind(words, at) {
-        Index::Got(kind, next) => deserialize_following(part, kind, words, next),
+    match decode_state_kind(record, words, at) {
+        Index::Got(kind, next) => deserialize_following(part, kind, record, words, next),
         Index::Refused(r) => Step::Refused(r),
     }
 }

@@ -4,7 +4,7 @@ use mathlib.Core.List.{List}
 use Prim.Native.Nat.{ℕ, _+_, _≤_}
 use native.Mathlib.Omega.{arith}
 use lib.IntN.{ℤ}
-use Rattle.format.specs.Reading.{Table, States, Edges, Sets, Rules, Modes, Decisions, Actions, Prog, run, _>>_, get, count, index}
+use Rattle.format.specs.Reading.{Table, States, Edges, Sets, Rules, Modes, Decisions, Actions, Prog, run, _>>_, spot, get, count, index}
 use Rattle.format.specs.Tables.{width}
 use Rattle.format.specs.declared.Counts.{Counts}
 use Rattle.format.specs.declared.Decoded.{Decoded}
@@ -72,7 +72,7 @@ actions-keep rooms = section-keeps rooms Actions (λ c n p w l. record { states 
 pub flags-keep : (rooms : Table → ℕ) (b f : ℕ) → Keeps rooms (flagging b f)
 unfolding flagging Gives
 flags-keep rooms b f h w =
-    then W rooms (Inside (List ℤ) rooms) (index f) (flagsFrom b f h)
+    then W rooms (Inside (List ℤ) rooms) (index (spot f 0)) (flagsFrom b f h)
     (λ k. then W rooms (Inside (List ℤ) rooms) (turns k 0 (flagOne b (h .counts .states) (f + 1)) (h .table)) (flagsEnd (h .counts))
     (λ t p. record { states = w .states; edges = w .edges; sets = w .sets; rules = w .rules }))
 
@@ -102,4 +102,4 @@ returns-keep rooms room ru h w = λ p l. record { states = w .states; edges = l;
 pub header-roomed : (rooms : Table → ℕ) (ws : List ℤ) (at : ℕ) (d : Decoded) → held d tt ≡ run header ws rooms at → Roomed rooms d
 unfolding header Gives
 header-roomed rooms ws at (D.Refused r) e = tt
-header-roomed rooms ws at (D.Accepted c) e = gives-run W rooms (Inside (Unit {0}) rooms) header (then W rooms (Inside (Unit {0}) rooms) (version >> grammar >> get 3) begun (λ v p. record { states = omega arith; edges = omega arith; sets = omega arith; rules = omega arith })) ws at (λ i l. tt) (sym e)
+header-roomed rooms ws at (D.Accepted c) e = gives-run W rooms (Inside (Unit {0}) rooms) header (then W rooms (Inside (Unit {0}) rooms) (version >> grammar >> get (spot 3 0)) begun (λ v p. record { states = omega arith; edges = omega arith; sets = omega arith; rules = omega arith })) ws at (λ i l. tt) (sym e)

@@ -9,7 +9,7 @@ use lib.Dec.{ltb, leb, eqb}
 use lib.IntN.{ℤ, pos, negsuc}
 use lib.ListN.{length, getD, replicate}
 use borrow.Author.Tests.{leb-true, le-leb, lt-ltb, le-ltb, ltb-true, ltb-false, eqb-true, eq-eqb}
-use Rattle.format.specs.Reading.{refusal, Table, States, Edges, Ranges, Sets, Rules, Modes, Decisions, Actions, Scratch, pick}
+use Rattle.format.specs.Reading.{bare, Table, States, Edges, Ranges, Sets, Rules, Modes, Decisions, Actions, Scratch, pick}
 use Rattle.format.specs.Sections.{State, none, same, size, bit}
 use Rattle.format.specs.Links.{those, names, stopOf, tail}
 use Rattle.format.specs.Places.{stKind, stRule, stFlags, stFirst, stLast, stCount, edKind, edSource, edTarget, edNext, edMark, ruStart, ruStop, naState}
@@ -21,7 +21,7 @@ use Rattle.laws.specs.Own.{same-true}
 use Rattle.writing.specs.Whole.{answer}
 use Rattle.inplace.specs.Rows.{wordOf}
 use Rattle.inplace.specs.Sections.{stopsIn}
-use Rattle.tables.specs.Words.{spot}
+use Rattle.tables.specs.Words.{numberOf}
 use Rattle.rewriting.specs.Formed.{natural, stateRead, argsRead}
 use Rattle.rewriting.specs.Tests.{lie, both, left, right, six, eight-all, same-self, natural-size}
 use Rattle.rewriting.specs.Passes.{all, stateFine, statesFine, edgeFine, edgesFine, argumentsFine, startsFine, namesFine, actionFine, actionsFine, setsFine}
@@ -290,7 +290,7 @@ module _ (tables : Table → List ℤ) (counts : Table → ℕ) where
         (rows-test 3 (counts Actions) (tables Actions) actionFine .1 (c .actions)))
       where
         mine : (i : ℕ) → i < p → markIn (tables Edges) i ≡ 1 → ⊥
-        mine i k q = go (tail (statesIn T) (rulesOf T) (edgesIn T) (edgeBack (row T Edges i))) (sym (ap spot (edge-word tables counts i edMark (omega (arith, c .wired .within, rows-edges tables counts)) (omega arith) ∙ c .marks i k)) ∙ q)
+        mine i k q = go (tail (statesIn T) (rulesOf T) (edgesIn T) (edgeBack (row T Edges i))) (sym (ap numberOf (edge-word tables counts i edMark (omega (arith, c .wired .within, rows-edges tables counts)) (omega arith) ∙ c .marks i k)) ∙ q)
           where
             go : (b : Bool) → 2 * bit b ≡ 1 → ⊥
             go true e = omega arith
@@ -301,7 +301,7 @@ module _ (tables : Table → List ℤ) (counts : Table → ℕ) where
         marked i k false q = c .returns i (ltb-false i p q) (omega (arith, rows-edges tables counts))
 
         theirs : (i : ℕ) → p ≤ i → i < counts Edges → markIn (tables Edges) i ≡ 1
-        theirs i k j = ap spot (edge-word tables counts i edMark j (omega arith) ∙ c .returns i k (omega (arith, rows-edges tables counts)))
+        theirs i k j = ap numberOf (edge-word tables counts i edMark j (omega arith) ∙ c .returns i k (omega (arith, rows-edges tables counts)))
 
     -- Refusal 15's second half, as the code decides it.
     pub passes-comes : (token : ℤ) → passes ≡ comes (given tables counts) token
@@ -360,7 +360,7 @@ module _ (n m k c : ℕ) (st ed ru : List ℤ) where
 -- ---- the answer
 
 module _ (tables : Table → List ℤ) (counts : Table → ℕ) (token : ℤ) (m : ℕ) where
-  pub write-refused : (inside tables counts && comes (given tables counts) token) ≡ false → {q : Refusal} {l : List ℤ} → q ≡ refusal 15 0 0 (pos 0) → l ≡ zeros m → writing (W.Refused q) l ≡ write tables counts token m
+  pub write-refused : (inside tables counts && comes (given tables counts) token) ≡ false → {q : Refusal} {l : List ℤ} → q ≡ bare 15 → l ≡ zeros m → writing (W.Refused q) l ≡ write tables counts token m
   unfolding write
   write-refused h p q = rw (h, p, q) refl
 

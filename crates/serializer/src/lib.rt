@@ -56,7 +56,7 @@ pub fn write(
     );
     if !writable {
         tables::clear(out);
-        return Written::Refused(words::refused(15, 0, 0, 0));
+        return Written::Refused(words::bare(15));
     }
     let own = wiring::marks::own_count(edges, edges_count);
     let n = writing::write_words(

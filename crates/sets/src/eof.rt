@@ -8,6 +8,7 @@ ghost use Rattle.format.specs.Reading.{Table, Ranges, run, noRoom};
 ghost use Rattle.format.specs.Sections as spec;
 ghost use Rattle.sets.specs.Answers.{outcomeFlag, Roomy};
 use format::Refusal;
+use format::Spot;
 use words::Word;
 
 // The EOF flag and the place of the next word, or why not.
@@ -24,32 +25,41 @@ fn bit(flagged: bool) -> usize
 }
 
 // There is no room for so many records, which may be more than a word can say.
-fn no_room(field: u32, place: usize, needed: usize) -> Refusal
+fn no_room(spot: Spot, place: usize, needed: usize) -> Refusal
     requires { ⌜ needed < 2 ^ 63 ⌝ }
-    ensures { λ r. ⌜ r ≡ noRoom field place needed ⌝ }
+    ensures { λ r. ⌜ r ≡ noRoom spot place needed ⌝ }
 {
     Refusal {
         number: 12,
-        field,
+        field: spot.field,
+        record: spot.record,
         place,
         value: needed as i64,
     }
 }
 
-// The flag of a set of n intervals, behind `kept` ranges.
-pub fn read_flag(words: &[i32], at: usize, kept: usize, n: usize, room: usize) -> Flag
+// The flag of the i-th set, of n intervals, behind `kept` ranges.
+pub fn read_flag(
+    record: usize,
+    words: &[i32],
+    at: usize,
+    kept: usize,
+    n: usize,
+    room: usize,
+) -> Flag
     requires { ⌜ (kept ≤ 65536) × (n < 2 ^ 31) ⌝ }
-    ensures says { λ r. ⌜ ((rooms : Table → ℕ) → rooms Ranges ≡ room → outcomeFlag r ≡ run (spec.flagged kept n) (now (words .entry)) rooms at) ⌝ }
+    ensures says { λ r. ⌜ ((rooms : Table → ℕ) → rooms Ranges ≡ room → outcomeFlag r ≡ run (spec.flagged «record» kept n) (now (words .entry)) rooms at) ⌝ }
     ensures roomy { λ r. ⌜ Roomy (kept + n) room r ⌝ }
 {
-    match words::read(words, at, 20) {
+    let spot = Spot { field: 20, record };
+    match words::read(words, at, spot) {
         Word::Got(v, next) => {
             let flagged = words::raised(v);
             let needed = kept + n + bit(flagged);
             if needed <= room {
                 Flag::Got(flagged, next)
             } else {
-                Flag::Refused(no_room(20, at, needed))
+                Flag::Refused(no_room(spot, at, needed))
             }
         }
         Word::Refused(r) => Flag::Refused(r),

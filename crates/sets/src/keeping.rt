@@ -51,7 +51,7 @@ pub fn keep_set(
     ensures bounded { λ r. ⌜ Below (kept + n + bit flagged + 1) r ⌝ }
 {
     let from = 2 * kept;
-    match merging::merge_set(&mut ranges[from..], flagged, n, words, at) {
+    match merging::merge_set(&mut ranges[from..], i, flagged, n, words, at) {
         Index::Got(count, next) => {
             put_set(sets, i, kept, count);
             Index::Got(kept + count, next)

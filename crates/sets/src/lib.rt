@@ -18,6 +18,7 @@ ghost use Rattle.sets.specs.Answers.{toldIx, keepingOf};
 use eof::Flag;
 use format::Counts;
 use format::Decoded;
+use format::Spot;
 use words::Index;
 
 // The i-th set, behind `kept` ranges: answers how many ranges are kept then.
@@ -34,8 +35,15 @@ fn deserialize_set(
     ensures says { λ r. ⌜ ((rooms : Table → ℕ) → rooms Ranges ≡ room → toldIx r (keepingOf (now (ranges .exit)) (now (sets .exit))) ≡ run (setOne i (keepingOf (now (ranges .entry)) (now (sets .entry)) kept)) (now (words .entry)) rooms at) ⌝ }
     ensures bounded { λ r. ⌜ Below (room + 1) r ⌝ }
 {
-    match words::read_usize(words, at, 19) {
-        Index::Got(n, next) => match eof::read_flag(words, next, kept, n, room) {
+    match words::read_usize(
+        words,
+        at,
+        Spot {
+            field: 19,
+            record: i,
+        },
+    ) {
+        Index::Got(n, next) => match eof::read_flag(i, words, next, kept, n, room) {
             Flag::Got(flagged, first) => {
                 keeping::keep_set(ranges, sets, i, kept, n, flagged, words, first)
             }

@@ -11,17 +11,18 @@ ghost use Rattle.laws.specs.Running.{turns};
 ghost use Rattle.words.specs.Answers.{told, Below};
 ghost use Rattle.sets.specs.Answers.{toldIx};
 ghost use Rattle.sets.specs.Merging as spec;
+use format::Spot;
 use words::Index;
 use words::Step;
 use words::Word;
 
-// Fields 21 and 22: one interval, into the k-th record.
-fn deserialize_interval(part: &mut [i32], k: usize, words: &[i32], at: usize) -> Step
+// Fields 21 and 22: one interval of the set, into the k-th record. Its words tell the set's number, not the interval's.
+fn deserialize_interval(part: &mut [i32], record: usize, k: usize, words: &[i32], at: usize) -> Step
     requires { ⌜ 2 * k + 2 ≤ length (now part) ⌝ }
-    ensures { λ r. ⌜ ((rooms : Table → ℕ) → told r (now (part .exit)) ≡ run (spec.gatherOne k (now (part .entry))) (now (words .entry)) rooms at) ⌝ }
+    ensures { λ r. ⌜ ((rooms : Table → ℕ) → told r (now (part .exit)) ≡ run (spec.gatherOne «record» k (now (part .entry))) (now (words .entry)) rooms at) ⌝ }
 {
-    match words::read(words, at, 21) {
-        Word::Got(start, second) => match words::read(words, second, 22) {
+    match words::read(words, at, Spot { field: 21, record }) {
+        Word::Got(start, second) => match words::read(words, second, Spot { field: 22, record }) {
             Word::Got(stop, next) => {
                 ordering::put(part, k, start, stop);
                 Step::Next(next)
@@ -33,15 +34,22 @@ fn deserialize_interval(part: &mut [i32], k: usize, words: &[i32], at: usize) ->
 }
 
 // n intervals, one after another, into the records from `first` on.
-fn gather(part: &mut [i32], first: usize, n: usize, words: &[i32], start: usize) -> Step
+fn gather(
+    part: &mut [i32],
+    record: usize,
+    first: usize,
+    n: usize,
+    words: &[i32],
+    start: usize,
+) -> Step
     requires { ⌜ 2 * (n + first) ≤ length (now part) ⌝ }
-    ensures { λ r. ⌜ ((rooms : Table → ℕ) → told r (now (part .exit)) ≡ run (turns n first spec.gatherOne (now (part .entry))) (now (words .entry)) rooms start) ⌝ }
+    ensures { λ r. ⌜ ((rooms : Table → ℕ) → told r (now (part .exit)) ≡ run (turns n first (spec.gatherOne «record») (now (part .entry))) (now (words .entry)) rooms start) ⌝ }
 {
     let end = n + first;
     let mut at = start;
     let mut i = first;
     while i < end {
-        match deserialize_interval(part, i, words, at) {
+        match deserialize_interval(part, record, i, words, at) {
             Step::Next(next) => {
                 at = next;
             }
@@ -67,14 +75,21 @@ fn begin_set(part: &mut [i32], flagged: bool) -> usize
     0
 }
 
-// A set of n intervals. Its records are all written before any is read.
-pub fn merge_set(part: &mut [i32], flagged: bool, n: usize, words: &[i32], at: usize) -> Index
+// The set with that number, of n intervals. Its records are all written before any is read.
+pub fn merge_set(
+    part: &mut [i32],
+    record: usize,
+    flagged: bool,
+    n: usize,
+    words: &[i32],
+    at: usize,
+) -> Index
     requires { ⌜ (n ≤ 65536) × (2 * (n + bit flagged) ≤ length (now part)) ⌝ }
-    ensures says { λ r. ⌜ ((rooms : Table → ℕ) → toldIx r (spec.part (now (part .exit))) ≡ run (spec.merging flagged n (now (part .entry))) (now (words .entry)) rooms at) ⌝ }
+    ensures says { λ r. ⌜ ((rooms : Table → ℕ) → toldIx r (spec.part (now (part .exit))) ≡ run (spec.merging «record» flagged n (now (part .entry))) (now (words .entry)) rooms at) ⌝ }
     ensures bounded { λ r. ⌜ Below (n + bit flagged + 1) r ⌝ }
 {
     let first = begin_set(part, flagged);
-    match gather(part, first, n, words, at) {
+    match gather(part, record, first, n, words, at) {
         Step::Next(next) => Index::Got(ranges::normalize(part, n + first), next),
         Step::Refused(r) => Index::Refused(r),
     }

@@ -10,10 +10,10 @@ use mir.Syntax.{w32, w64}
 use mir.Val.{SFits, Fits, ofZ}
 use borrow.Author.Tests.{ltb-true, eqb-true, eqb-false, eq-eqb, ne-eqb}
 use Rattle.format.specs.Sections.{same, size}
-use Rattle.tables.specs.Words.{spot}
+use Rattle.tables.specs.Words.{numberOf}
 
 -- below 0
-pub no-number : (z : ℤ) → ltZ z (pos 0) ≡ true → _≡_ {A = ℕ} 4294967295 (spot z)
+pub no-number : (z : ℤ) → ltZ z (pos 0) ≡ true → _≡_ {A = ℕ} 4294967295 (numberOf z)
 no-number (pos n) e = absurd (omega (arith, ltb-true n 0 e))
 no-number (negsuc n) e = refl
 
@@ -26,7 +26,7 @@ pub fits : (z : ℤ) → SFits w32 z → ltZ z (pos 0) ≡ false → T (nonNeg z
 fits (pos n) f e = (tt, record { fits = omega (arith, f .sfits) })
 fits (negsuc n) f e = absurd (let z : _≡_ {A = ℕ} 0 1 = cc in omega arith)
 
-pub number : (z : ℤ) → ltZ z (pos 0) ≡ false → natAbs z ≡ spot z
+pub number : (z : ℤ) → ltZ z (pos 0) ≡ false → natAbs z ≡ numberOf z
 number (pos n) e = refl
 number (negsuc n) e = absurd (let z : _≡_ {A = ℕ} 0 1 = cc in omega arith)
 

@@ -12,35 +12,35 @@ use borrow.Author.Tests.{le-ltb}
 use Rattle.format.specs.Links.{names}
 
 -- ""None" is −1": no table has so many records that it would be one of them.
-abbrev pub spot : ℤ → ℕ
-spot (pos n) = n
-spot (negsuc n) = 4294967295
+abbrev pub numberOf : ℤ → ℕ
+numberOf (pos n) = n
+numberOf (negsuc n) = 4294967295
 
 -- Word i of a table, as a record's number.
 abbrev pub numberAt : List ℤ → ℕ → ℕ
-numberAt t i = spot (getD t i (pos 0))
+numberAt t i = numberOf (getD t i (pos 0))
 
 -- a small number is of that word alone
-pub spot-word : (z : ℤ) (n : ℕ) → spot z ≡ n → n < 2 ^ 31 → z ≡ pos n
-spot-word (pos m) n e h = ap pos e
-spot-word (negsuc m) n e h = absurd (omega arith)
+pub number-word : (z : ℤ) (n : ℕ) → numberOf z ≡ n → n < 2 ^ 31 → z ≡ pos n
+number-word (pos m) n e h = ap pos e
+number-word (negsuc m) n e h = absurd (omega arith)
 
 -- two words of one small number are one word
-pub spot-one : (a b : ℤ) → spot a ≡ spot b → spot b < 2 ^ 31 → a ≡ b
-spot-one a b e h = spot-word a (spot b) e h ∙ sym (spot-word b (spot b) refl h)
+pub number-one : (a b : ℤ) → numberOf a ≡ numberOf b → numberOf b < 2 ^ 31 → a ≡ b
+number-one a b e h = number-word a (numberOf b) e h ∙ sym (number-word b (numberOf b) refl h)
 
 -- a word names one of n records exactly if its number is below n
-pub names-number : (n : ℕ) (z : ℤ) → n < 2 ^ 32 → names n z ≡ ltb (spot z) n
+pub names-number : (n : ℕ) (z : ℤ) → n < 2 ^ 32 → names n z ≡ ltb (numberOf z) n
 names-number n (pos k) h = refl
 names-number n (negsuc k) h = sym (le-ltb 4294967295 n (omega arith))
 
 -- ---- after a store
 
-pub number-same : (t : List ℤ) (i : ℕ) (z : ℤ) → i < length t → numberAt (set t i z) i ≡ spot z
-number-same t i z h = ap spot (getD-set-same t i z (pos 0) h)
+pub number-same : (t : List ℤ) (i : ℕ) (z : ℤ) → i < length t → numberAt (set t i z) i ≡ numberOf z
+number-same t i z h = ap numberOf (getD-set-same t i z (pos 0) h)
 
 pub number-other : (t : List ℤ) (i j : ℕ) (z : ℤ) → (j ≡ i → ⊥) → numberAt (set t i z) j ≡ numberAt t j
-number-other t i j z n = ap spot (getD-set-other t i j z (pos 0) n)
+number-other t i j z n = ap numberOf (getD-set-other t i j z (pos 0) n)
 
 -- ---- clearing
 

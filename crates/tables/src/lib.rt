@@ -7,7 +7,7 @@ ghost use lib.IntN.{pos};
 ghost use lib.ListN.{length, getD, set};
 ghost use Rattle.format.specs.Sections.{same, size};
 ghost use Rattle.format.specs.Tables.{rowAt, zeros};
-ghost use Rattle.tables.specs.Words.{spot, numberAt};
+ghost use Rattle.tables.specs.Words.{numberOf, numberAt};
 
 // Every word becomes 0.
 pub fn clear(t: &mut [i32])
@@ -21,8 +21,8 @@ pub fn clear(t: &mut [i32])
 }
 
 // A word as a record's number. "None" is -1: a number that no table has a record for.
-pub fn spot_of(z: i32) -> usize
-    ensures { λ r. ⌜ r ≡ spot z ⌝ }
+pub fn number_of(z: i32) -> usize
+    ensures { λ r. ⌜ r ≡ numberOf z ⌝ }
 {
     if z < 0 { 4294967295 } else { z as usize }
 }
@@ -39,7 +39,7 @@ pub fn number_at(t: &[i32], i: usize) -> usize
     requires { ⌜ i < length (now t) ⌝ }
     ensures { λ r. ⌜ r ≡ numberAt (now (t .entry)) i ⌝ }
 {
-    spot_of(t[i])
+    number_of(t[i])
 }
 
 // Word i's size: 0 for a negative word.

@@ -10,7 +10,7 @@ use borrow.Author.Tests.{ltb-true}
 use Rattle.format.specs.Sections.{none, same, size}
 use Rattle.format.specs.Places.{stFirst, stLast, stCount, edSource, edNext}
 use Rattle.inplace.specs.Rows.{wordOf}
-use Rattle.tables.specs.Words.{spot, spot-word, numberAt}
+use Rattle.tables.specs.Words.{numberOf, number-word, numberAt}
 use Rattle.words.specs.Signs.{signOf}
 use Rattle.words.specs.declared.Sign.the-variants.{Natural, Negative}
 use Rattle.rewriting.specs.Formed.{natural}
@@ -44,15 +44,15 @@ module _ (m : ℕ) (src : ℕ → ℕ) (nxt : ℕ → ℤ) (s : ℕ) (end : ℤ)
   pub stands-below : (low j : ℕ) → stands low j ≡ true → j < m
   stands-below low j h = ltb-true j m (right (leb low j) (ltb j m) (left (leb low j && ltb j m) (eqb (src j) s) h))
 
-  pub climbs-on : (left low : ℕ) (e before : ℤ) {j : ℕ} → 0 < left → j ≡ spot e → stands low j ≡ true → climbs m src nxt s end left low e before ≡ climbs m src nxt s end (left - 1) (j + 1) (nxt j) e
+  pub climbs-on : (left low : ℕ) (e before : ℤ) {j : ℕ} → 0 < left → j ≡ numberOf e → stands low j ≡ true → climbs m src nxt s end left low e before ≡ climbs m src nxt s end (left - 1) (j + 1) (nxt j) e
   unfolding climbs
   climbs-on zero low e before l q h = absurd (omega arith)
   climbs-on (suc k) low e before {j} l q h =
       let one : suc k - 1 ≡ k = omega arith in
-      rw (spot-word e j (sym q) (omega (arith, few, stands-below low j h)), one) (rw h refl)
+      rw (number-word e j (sym q) (omega (arith, few, stands-below low j h)), one) (rw h refl)
 
   -- or it does not
-  pub climbs-off : (left low : ℕ) (e before : ℤ) {j : ℕ} → 0 < left → j ≡ spot e → stands low j ≡ false → climbs m src nxt s end left low e before ≡ false
+  pub climbs-off : (left low : ℕ) (e before : ℤ) {j : ℕ} → 0 < left → j ≡ numberOf e → stands low j ≡ false → climbs m src nxt s end left low e before ≡ false
   unfolding climbs
   climbs-off zero low e before l q h = absurd (omega arith)
   climbs-off (suc k) low (pos i) before l q h = rw (sym q) (rw h refl)

@@ -11,7 +11,7 @@ use Rattle.format.specs.Sections.{size}
 use Rattle.format.specs.Links.{stateAt}
 use Rattle.format.specs.Writing.{cell, cellSize, stateBack, edgeBack, ruleBack, rowsOf, given}
 use Rattle.atn.specs.Records.{noState, edgeAt}
-use Rattle.tables.specs.Words.{spot, numberAt}
+use Rattle.tables.specs.Words.{numberOf, numberAt}
 use Rattle.rewriting.specs.Formed.{natural}
 use Rattle.rewriting.specs.Tests.{lie}
 use Rattle.rewriting.specs.Fine.{statesIn, edgesIn, rulesOf, at}
@@ -67,8 +67,8 @@ module _ (tables : Table → List ℤ) (counts : Table → ℕ) where
 
   -- an edge's word as a record's number
   pub edge-number : (i p : ℕ) → i < counts Edges → p < 8 → natural (at T Edges i p) ≡ true → numberAt (tables Edges) (8 * i + p) ≡ cellSize (row T Edges i) p
-  edge-number i p h k e = ap spot (edge-word i p h k) ∙ go (at T Edges i p) e
+  edge-number i p h k e = ap numberOf (edge-word i p h k) ∙ go (at T Edges i p) e
     where
-      go : (z : ℤ) → natural z ≡ true → spot z ≡ size z
+      go : (z : ℤ) → natural z ≡ true → numberOf z ≡ size z
       go (pos n) e = refl
       go (negsuc n) e = lie e

@@ -15,7 +15,7 @@ use Rattle.format.specs.Links.{numbers, names, decides, tail}
 use Rattle.format.specs.Places.{stFlags, edMark}
 use Rattle.format.specs.Writing.{flag2, edgeBack, given}
 use Rattle.laws.specs.Order.{order}
-use Rattle.tables.specs.Words.{spot, spot-word, numberAt}
+use Rattle.tables.specs.Words.{numberOf, number-word, numberAt}
 use Rattle.inplace.specs.Links.{decidesAt}
 use Rattle.atn.specs.Records.{edgeAt, states-are, edges-are}
 use Rattle.rewriting.specs.Tests.{lie}
@@ -82,19 +82,19 @@ module _ (tables : Table → List ℤ) (counts : Table → ℕ) (l : Lie tables 
       go true false = omega arith
       go false b = omega arith
 
-  pub mark-word : (i : ℕ) → i < counts Edges → markIn (tables Edges) i ≡ spot (at T Edges i edMark)
-  mark-word i h = ap spot (edge-word tables counts i edMark h (omega arith))
+  pub mark-word : (i : ℕ) → i < counts Edges → markIn (tables Edges) i ≡ numberOf (at T Edges i edMark)
+  mark-word i h = ap numberOf (edge-word tables counts i edMark h (omega arith))
 
   pub marks-exactly : (o : ℕ) → marksFine (counts States) (counts Edges) (counts Rules) (tables States) (tables Edges) o ≡ true ↔ ((i : ℕ) → i < counts Edges → at T Edges i edMark ≡ pos (due o i))
   marks-exactly o =
       let a = all-exactly (counts Edges) (λ i. eqb (markIn (tables Edges) i) (markFor (counts States) (counts Edges) (counts Rules) (tables States) (tables Edges) o i)) in (
-        (λ h i k. spot-word (at T Edges i edMark) (due o i) (sym (mark-word i k) ∙ eqb-true _ _ (a .0 h i k) ∙ due-is o i) (due-small o i)),
-        (λ h. a .1 (λ i k. eq-eqb _ _ (mark-word i k ∙ ap spot (h i k) ∙ sym (due-is o i)))),
+        (λ h i k. number-word (at T Edges i edMark) (due o i) (sym (mark-word i k) ∙ eqb-true _ _ (a .0 h i k) ∙ due-is o i) (due-small o i)),
+        (λ h. a .1 (λ i k. eq-eqb _ _ (mark-word i k ∙ ap numberOf (h i k) ∙ sym (due-is o i)))),
       )
 
   -- ---- precedence decisions
 
-  flags-four : (d : Bool) (v : ℤ) → names 8 v ≡ true → pick d (leb 4 (spot v)) (ltb (spot v) 4) ≡ true ↔ (among (size v) (4 ∷ 5 ∷ 6 ∷ 7 ∷ []) ≡ d)
+  flags-four : (d : Bool) (v : ℤ) → names 8 v ≡ true → pick d (leb 4 (numberOf v)) (ltb (numberOf v) 4) ≡ true ↔ (among (size v) (4 ∷ 5 ∷ 6 ∷ 7 ∷ []) ≡ d)
   flags-four d (negsuc f) h = lie h
   flags-four d (pos f) h = eights (λ f. pick d (leb 4 f) (ltb f 4) ≡ true ↔ (among f (4 ∷ 5 ∷ 6 ∷ 7 ∷ []) ≡ d)) (low d) (low d) (low d) (low d) (high d) (high d) (high d) (high d) f (ltb-true f 8 h)
     where
@@ -119,5 +119,5 @@ module _ (tables : Table → List ℤ) (counts : Table → ℕ) (l : Lie tables 
       one s k j =
           let d = decidesAt (counts States) (counts Edges) (counts Rules) (tables Rules) (tables Edges) (tables States) s in
           let v = at T States s stFlags in
-          let q : numberAt (tables States) (8 * s + stFlags) ≡ spot (at T States s stFlags) = ap spot (state-word tables counts s stFlags j (omega arith)) in
+          let q : numberAt (tables States) (8 * s + stFlags) ≡ numberOf (at T States s stFlags) = ap numberOf (state-word tables counts s stFlags j (omega arith)) in
           subst (λ (i : ℕ). pick d (leb 4 i) (ltb i 4) ≡ true ↔ (flag4 (row T States s) ≡ d)) (sym q) (flags-four d v (state-tests T (pos 0) w s k .2))

@@ -22,7 +22,7 @@ use Rattle.laws.specs.Own.{same-true}
 use Rattle.inplace.specs.Rows.{wordOf}
 use Rattle.inplace.specs.Links.{Net, net, returning, returnEdge, stopFor}
 use Rattle.agrees.specs.Lists.{upTo, each-number}
-use Rattle.tables.specs.Words.{spot, numberAt}
+use Rattle.tables.specs.Words.{numberOf, numberAt}
 use Rattle.atn.specs.Records.{noEdge, edgeAt}
 use Rattle.rewriting.specs.Formed.{natural, argsRead}
 use Rattle.rewriting.specs.Tests.{lie, both, left, right}
@@ -191,7 +191,7 @@ module _ (tables : Table → List ℤ) (counts : Table → ℕ) (w : Joined (giv
       go false = refl
 
   on-is : (s left i j : ℕ) → i + left ≡ length (chain es s)
-      → metOn (counts States) (counts Edges) (counts Rules) (tables States) (tables Edges) (tables Rules) o left (spot (first (drop i (chain es s)))) j ≡ behind es (each mine (drop i (chain es s))) j
+      → metOn (counts States) (counts Edges) (counts Rules) (tables States) (tables Edges) (tables Rules) o left (numberOf (first (drop i (chain es s)))) j ≡ behind es (each mine (drop i (chain es s))) j
   unfolding metOn
   on-is s zero i j q = let e : i ≡ length (chain es s) = omega arith in sym (rw (e, drop-length (chain es s)) refl)
   on-is s (suc left) i j q =
@@ -199,12 +199,12 @@ module _ (tables : Table → List ℤ) (counts : Table → ℕ) (w : Joined (giv
       let e = getD (chain es s) i 0 in
       let x = chain-are es s e .0 (at-mem i (chain es s) h) in
       let k : e < counts Edges = omega (arith, x .0, long) in
-      let nx : numberAt (tables Edges) (8 * e + edNext) ≡ spot (first (drop (suc i) (chain es s))) =
-      ap spot (edge-word tables counts e edNext k (omega arith)
+      let nx : numberAt (tables Edges) (8 * e + edNext) ≡ numberOf (first (drop (suc i) (chain es s))) =
+      ap numberOf (edge-word tables counts e edNext k (omega arith)
       ∙ chained T (pos 0) w .next-edge e (x .0)
       ∙ ap (λ (t : ℕ). next es t e) (x .1)
       ∙ next-in es s i h) in
-      ap (λ (l : List ℕ). metOn (counts States) (counts Edges) (counts Rules) (tables States) (tables Edges) (tables Rules) o (suc left) (spot (first l)) j) (drop-cons (chain es s) i 0 h)
+      ap (λ (l : List ℕ). metOn (counts States) (counts Edges) (counts Rules) (tables States) (tables Edges) (tables Rules) o (suc left) (numberOf (first l)) j) (drop-cons (chain es s) i 0 h)
       ∙ rw (lt-ltb e (counts Edges) k, nx, met-is e j k) (on-is s left (suc i) (behind es (mine e) j) (omega arith))
       ∙ sym (behind-append es (mine e) (each mine (drop (suc i) (chain es s))) j)
       ∙ ap (λ (l : List ℕ). behind es (each mine l) j) (sym (drop-cons (chain es s) i 0 h))
@@ -215,7 +215,7 @@ module _ (tables : Table → List ℤ) (counts : Table → ℕ) (w : Joined (giv
       let c = chained T (pos 0) w in
       let f = state-word tables counts s stFirst h (omega arith) ∙ c .first-edge s k in
       let z = state-word tables counts s stCount h (omega arith) ∙ c .edge-count s k in
-      (λ i. metOn (counts States) (counts Edges) (counts Rules) (tables States) (tables Edges) (tables Rules) o (size (z i)) (spot (f i)) j)
+      (λ i. metOn (counts States) (counts Edges) (counts Rules) (tables States) (tables Edges) (tables Rules) o (size (z i)) (numberOf (f i)) j)
       ∙ on-is s (length (chain es s)) 0 j (omega arith)
 
   from-is : (s : ℕ) → s ≤ counts States → metFrom (counts States) (counts Edges) (counts Rules) (tables States) (tables Edges) (tables Rules) o s ≡ behind es (upTo (λ s. each mine (chain es s)) s) o

@@ -48,7 +48,7 @@ fn climbs(edges: &[i32], m: usize, s: usize, first: i32, last: i32, count: usize
     let mut next = first;
     let mut before: i32 = -1;
     while left > 0 {
-        let j = tables::spot_of(next);
+        let j = tables::number_of(next);
         if !stands(edges, m, s, low, j) {
             return false;
         }

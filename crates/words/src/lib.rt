@@ -6,11 +6,12 @@ ghost use mathlib.Core.Path.{_≡_};
 ghost use mathlib.Core.List.{List};
 ghost use Prim.Native.Nat.{ℕ, _+_, _<_, _^_};
 ghost use lib.IntN.{ℤ, pos};
-ghost use Rattle.format.specs.Reading.{Table, run, get, index, count, natural, known as isKnown, listed as isListed, refusal};
+ghost use Rattle.format.specs.Reading.{Table, run, get, index, count, natural, known as isKnown, listed as isListed, refusal, bare as isBare};
 ghost use Rattle.format.specs.Sections.{raised as isRaised, orNone};
 ghost use Rattle.words.specs.Signs.{signOf};
 ghost use Rattle.words.specs.Answers.{outcome, outcomeIx, Below};
 use format::Refusal;
+use format::Spot;
 
 // A word and the place of the next, or why not.
 pub enum Word {
@@ -82,27 +83,44 @@ pub fn or_none(b: i32) -> i32
 }
 
 // The refusal of the word `value`.
-pub fn refused(number: u32, field: u32, place: usize, value: i32) -> Refusal
-    ensures { λ r. ⌜ r ≡ refusal number field place value ⌝ }
+pub fn refused(number: u32, spot: Spot, place: usize, value: i32) -> Refusal
+    ensures { λ r. ⌜ r ≡ refusal number spot place value ⌝ }
 {
     Refusal {
         number,
-        field,
+        field: spot.field,
+        record: spot.record,
         place,
         value: wide(value),
     }
 }
 
+// "Refusals from here on hold 0 in what isn't named" (document 02): this one names its number alone.
+pub fn bare(number: u32) -> Refusal
+    ensures { λ r. ⌜ r ≡ isBare number ⌝ }
+{
+    refused(
+        number,
+        Spot {
+            field: 0,
+            record: 0,
+        },
+        0,
+        0,
+    )
+}
+
 // The next word.
-pub fn read(words: &[i32], at: usize, field: u32) -> Word
-    ensures { λ r. ⌜ ((rooms : Table → ℕ) → outcome r ≡ run (get field) (now (words .entry)) rooms at) ⌝ }
+pub fn read(words: &[i32], at: usize, spot: Spot) -> Word
+    ensures { λ r. ⌜ ((rooms : Table → ℕ) → outcome r ≡ run (get spot) (now (words .entry)) rooms at) ⌝ }
 {
     if at < words.len() {
         Word::Got(words[at], at + 1)
     } else {
         Word::Refused(Refusal {
             number: 1,
-            field,
+            field: spot.field,
+            record: spot.record,
             place: words.len(),
             value: 0,
         })
@@ -110,13 +128,13 @@ pub fn read(words: &[i32], at: usize, field: u32) -> Word
 }
 
 // A word that was read, as an index: refusal 2 if it is negative.
-pub fn read_index(value: i32, field: u32, place: usize, next: usize) -> Index
-    ensures says { λ r. ⌜ ((ws : List ℤ) (rooms : Table → ℕ) → outcomeIx r ≡ run (natural field place value) ws rooms next) ⌝ }
+pub fn read_index(value: i32, spot: Spot, place: usize, next: usize) -> Index
+    ensures says { λ r. ⌜ ((ws : List ℤ) (rooms : Table → ℕ) → outcomeIx r ≡ run (natural spot place value) ws rooms next) ⌝ }
     ensures bounded { λ r. ⌜ Below (2 ^ 31) r ⌝ }
 {
     match sign_of(value) {
         Sign::Natural(n) => Index::Got(n, next),
-        Sign::Negative => Index::Refused(refused(2, field, place, value)),
+        Sign::Negative => Index::Refused(refused(2, spot, place, value)),
     }
 }
 
@@ -126,48 +144,48 @@ pub fn known(
     number: u32,
     from: usize,
     to: usize,
-    field: u32,
+    spot: Spot,
     place: usize,
     next: usize,
 ) -> Index
     requires { ⌜ to < 2 ^ 31 ⌝ }
-    ensures says { λ r. ⌜ ((ws : List ℤ) (rooms : Table → ℕ) → outcomeIx r ≡ run (isKnown number from to field place value) ws rooms next) ⌝ }
+    ensures says { λ r. ⌜ ((ws : List ℤ) (rooms : Table → ℕ) → outcomeIx r ≡ run (isKnown number from to spot place value) ws rooms next) ⌝ }
     ensures bounded { λ r. ⌜ Below (to + 1) r ⌝ }
 {
     match sign_of(value) {
         Sign::Natural(n) => {
             if n < from {
-                return Index::Refused(refused(number, field, place, value));
+                return Index::Refused(refused(number, spot, place, value));
             }
             if to < n {
-                return Index::Refused(refused(number, field, place, value));
+                return Index::Refused(refused(number, spot, place, value));
             }
             Index::Got(n, next)
         }
-        Sign::Negative => Index::Refused(refused(number, field, place, value)),
+        Sign::Negative => Index::Refused(refused(number, spot, place, value)),
     }
 }
 
 // An index that was read, if it is below `end`; else the refusal with that number.
-pub fn listed(n: usize, number: u32, end: usize, field: u32, place: usize, next: usize) -> Index
+pub fn listed(n: usize, number: u32, end: usize, spot: Spot, place: usize, next: usize) -> Index
     requires { ⌜ n < 2 ^ 31 ⌝ }
-    ensures says { λ r. ⌜ ((ws : List ℤ) (rooms : Table → ℕ) → outcomeIx r ≡ run (isListed number end field place n) ws rooms next) ⌝ }
+    ensures says { λ r. ⌜ ((ws : List ℤ) (rooms : Table → ℕ) → outcomeIx r ≡ run (isListed number end spot place n) ws rooms next) ⌝ }
     ensures bounded { λ r. ⌜ Below end r ⌝ }
 {
     if n < end {
         Index::Got(n, next)
     } else {
-        Index::Refused(refused(number, field, place, word_of(n)))
+        Index::Refused(refused(number, spot, place, word_of(n)))
     }
 }
 
 // The next word as an index.
-pub fn read_usize(words: &[i32], at: usize, field: u32) -> Index
-    ensures says { λ r. ⌜ ((rooms : Table → ℕ) → outcomeIx r ≡ run (index field) (now (words .entry)) rooms at) ⌝ }
+pub fn read_usize(words: &[i32], at: usize, spot: Spot) -> Index
+    ensures says { λ r. ⌜ ((rooms : Table → ℕ) → outcomeIx r ≡ run (index spot) (now (words .entry)) rooms at) ⌝ }
     ensures bounded { λ r. ⌜ Below (2 ^ 31) r ⌝ }
 {
-    match read(words, at, field) {
-        Word::Got(v, next) => read_index(v, field, at, next),
+    match read(words, at, spot) {
+        Word::Got(v, next) => read_index(v, spot, at, next),
         Word::Refused(r) => Index::Refused(r),
     }
 }
@@ -177,12 +195,13 @@ pub fn read_count(words: &[i32], at: usize, field: u32, room: usize) -> Index
     ensures says { λ r. ⌜ ((rooms : Table → ℕ) (t : Table) → rooms t ≡ room → outcomeIx r ≡ run (count t field) (now (words .entry)) rooms at) ⌝ }
     ensures bounded { λ r. ⌜ Below (room + 1) r ⌝ }
 {
-    match read_usize(words, at, field) {
+    let spot = Spot { field, record: 0 };
+    match read_usize(words, at, spot) {
         Index::Got(n, next) => {
             if n <= room {
                 Index::Got(n, next)
             } else {
-                Index::Refused(refused(12, field, at, word_of(n)))
+                Index::Refused(refused(12, spot, at, word_of(n)))
             }
         }
         Index::Refused(r) => Index::Refused(r),

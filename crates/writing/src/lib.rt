@@ -82,7 +82,7 @@ pub fn finish(out: &mut [i32], n: usize) -> Written
 {
     if out.len() < n {
         tables::clear(out);
-        return Written::Refused(words::refused(16, 0, 0, 0));
+        return Written::Refused(words::bare(16));
     }
     tables::clear(&mut out[n..]);
     Written::Wrote(n)

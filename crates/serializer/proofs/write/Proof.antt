@@ -30,7 +30,7 @@ returns : tie.Need-returns
 returns c =
     let s = c .before .before .before .before .before .before in
     let a = s .args in
-    writes-by (lent s) (counts s) (a .max-token-type) (length (now (a .out))) _ (write-refused (lent s) (counts s) (a .max-token-type) (length (now (a .out))) (failed (c .before .before .before .before .before .writable .ensures (a .max-token-type)) (c .before .before .before .before .if1 .taken)) (c .refused .ensures) (c .before .before .clear .ensures))
+    writes-by (lent s) (counts s) (a .max-token-type) (length (now (a .out))) _ (write-refused (lent s) (counts s) (a .max-token-type) (length (now (a .out))) (failed (c .before .before .before .before .before .writable .ensures (a .max-token-type)) (c .before .before .before .before .if1 .taken)) (c .bare .ensures) (c .before .before .clear .ensures))
 
 -- what the tests have shown
 shown : (c : tie.Else1) → let s = c .before .before in Passed (lent s) (counts s)

@@ -19,7 +19,7 @@ returns c =
     let a = c .before .before .before .before .before .before .args in
     let h = c .before .before .before .before .before .before .fits .value .sfits in
     let s = its-sign (a .value) h (c .before .before .before .before .before .sign-of .ensures) (c .before .before .before .n .given .1) in
-    (λ ws rooms. rw (c .refused .ensures, back32 (a .value) h) (run-refuse (known-low (a .number) (a .from) (a .to) (a .field) (a .place) (a .value) (c .before .before .before .n .given .0 .0) s (c .before .if1 .taken)) ws rooms (a .next)), tt)
+    (λ ws rooms. rw (c .refused .ensures, back32 (a .value) h) (run-refuse (known-low (a .number) (a .from) (a .to) (a .spot) (a .place) (a .value) (c .before .before .before .n .given .0 .0) s (c .before .if1 .taken)) ws rooms (a .next)), tt)
 
 refused-requires-2 : tie.Need-refused-requires-2
 refused-requires-2 c κs = search needs
@@ -29,7 +29,7 @@ returns-2 c =
     let a = c .before .before .before .before .before .before .before .args in
     let h = c .before .before .before .before .before .before .before .fits .value .sfits in
     let s = its-sign (a .value) h (c .before .before .before .before .before .before .sign-of .ensures) (c .before .before .before .before .n .given .1) in
-    (λ ws rooms. rw (c .refused2 .ensures, back32 (a .value) h) (run-refuse (known-high (a .number) (a .from) (a .to) (a .field) (a .place) (a .value) (c .before .before .before .before .n .given .0 .0) s (c .before .before .if1 .left) (c .before .if2 .taken)) ws rooms (a .next)), tt)
+    (λ ws rooms. rw (c .refused2 .ensures, back32 (a .value) h) (run-refuse (known-high (a .number) (a .from) (a .to) (a .spot) (a .place) (a .value) (c .before .before .before .before .n .given .0 .0) s (c .before .before .if1 .left) (c .before .if2 .taken)) ws rooms (a .next)), tt)
 
 enum-told : tie.Need-enum-told
 enum-told c = search needs
@@ -42,14 +42,14 @@ returns-3 c =
     let a = c .before .before .before .before .before .before .args in
     let h = c .before .before .before .before .before .before .fits .value .sfits in
     let s = its-sign (a .value) h (c .before .before .before .before .before .sign-of .ensures) (c .before .before .before .n .given .1) in
-    (λ ws rooms. run-done (known-ok (a .number) (a .from) (a .to) (a .field) (a .place) (a .value) (c .before .before .before .n .given .0 .0) s (c .before .if1 .left) (c .if2 .left)) ws rooms (a .next), omega (arith, c .if2 .left))
+    (λ ws rooms. run-done (known-ok (a .number) (a .from) (a .to) (a .spot) (a .place) (a .value) (c .before .before .before .n .given .0 .0) s (c .before .if1 .left) (c .if2 .left)) ws rooms (a .next), omega (arith, c .if2 .left))
 
 returns-4 : tie.Need-returns-4
 returns-4 c =
     let a = c .before .before .before .before .args in
     let h = c .before .before .before .before .fits .value .sfits in
     let s = its-sign (a .value) h (c .before .before .before .sign-of .ensures) (c .before .enum-told .given .1) in
-    (λ ws rooms. rw (c .refused3 .ensures, back32 (a .value) h) (run-refuse (known-no (a .number) (a .from) (a .to) (a .field) (a .place) (a .value) s) ws rooms (a .next)), tt)
+    (λ ws rooms. rw (c .refused3 .ensures, back32 (a .value) h) (run-refuse (known-no (a .number) (a .from) (a .to) (a .spot) (a .place) (a .value) s) ws rooms (a .next)), tt)
 
 pub known-spec : {M : Type 1} → statement M
 known-spec =

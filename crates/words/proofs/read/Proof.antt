@@ -19,10 +19,10 @@ add-t10 c = search needs
 returns : tie.Need-returns
 returns c =
     let a = c .before .before .args in
-    λ rooms. rw (back32 (getD (now (a .words)) (a .at) (pos 0)) (c .t9 .given)) (get-ok (a .field) (now (a .words)) rooms (a .at) (c .before .if1 .taken))
+    λ rooms. rw (back32 (getD (now (a .words)) (a .at) (pos 0)) (c .t9 .given)) (get-ok (a .spot) (now (a .words)) rooms (a .at) (c .before .if1 .taken))
 
 returns-2 : tie.Need-returns-2
-returns-2 c = let a = c .before .args in λ rooms. get-no (a .field) (now (a .words)) rooms (a .at) (c .if1 .left)
+returns-2 c = let a = c .before .args in λ rooms. get-no (a .spot) (now (a .words)) rooms (a .at) (c .if1 .left)
 
 pub read-spec : {M : Type 1} → statement M
 read-spec = tie.close (tie.spec mul-t7 shared-slice-copy-out-t9 add-t10 returns returns-2)

@@ -21,14 +21,14 @@ returns c =
     let a = c .before .before .before .before .args in
     let h = c .before .before .before .before .fits .value .sfits in
     let s = its-sign (a .value) h (c .before .before .before .sign-of .ensures) (c .before .n .given .1) in
-    (λ ws rooms. run-done (natural-ok (a .field) (a .place) (c .before .n .given .0 .0) (a .value) s) ws rooms (a .next), natural-small (a .value) (c .before .n .given .0 .0) _ s h)
+    (λ ws rooms. run-done (natural-ok (a .spot) (a .place) (c .before .n .given .0 .0) (a .value) s) ws rooms (a .next), natural-small (a .value) (c .before .n .given .0 .0) _ s h)
 
 returns-2 : tie.Need-returns-2
 returns-2 c =
     let a = c .before .before .before .before .args in
     let h = c .before .before .before .before .fits .value .sfits in
     let s = its-sign (a .value) h (c .before .before .before .sign-of .ensures) (c .before .enum-told .given .1) in
-    (λ ws rooms. rw (c .refused .ensures, back32 (a .value) h) (run-refuse (natural-no (a .field) (a .place) (a .value) s) ws rooms (a .next)), tt)
+    (λ ws rooms. rw (c .refused .ensures, back32 (a .value) h) (run-refuse (natural-no (a .spot) (a .place) (a .value) s) ws rooms (a .next)), tt)
 
 pub read-index-spec : {M : Type 1} → statement M
 read-index-spec =

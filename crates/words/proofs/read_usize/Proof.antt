@@ -22,12 +22,12 @@ returns : tie.Need-returns
 returns c =
     let a = c .before .before .before .before .before .args in
     let got = c .before .before .v .given in
-    (λ rooms. (rw (back32 (got .0 .0) (c .before .known-told .given .0 .1)) at (c .read-index .ensures .0 (now (a .words)) rooms)) ∙ sym (index-ok (a .field) (now (a .words)) rooms (a .at) (rw (got .1) at (c .before .before .before .before .read .ensures rooms))), c .read-index .ensures .1)
+    (λ rooms. (rw (back32 (got .0 .0) (c .before .known-told .given .0 .1)) at (c .read-index .ensures .0 (now (a .words)) rooms)) ∙ sym (index-ok (a .spot) (now (a .words)) rooms (a .at) (rw (got .1) at (c .before .before .before .before .read .ensures rooms))), c .read-index .ensures .1)
 
 returns-2 : tie.Need-returns-2
 returns-2 c =
     let a = c .before .before .before .before .args in
-    (λ rooms. index-no (a .field) (now (a .words)) rooms (a .at) (rw (c .before .r .given .1) at (c .before .before .before .read .ensures rooms)), tt)
+    (λ rooms. index-no (a .spot) (now (a .words)) rooms (a .at) (rw (c .before .r .given .1) at (c .before .before .before .read .ensures rooms)), tt)
 
 pub read-usize-spec : {M : Type 1} → statement M
 read-usize-spec =

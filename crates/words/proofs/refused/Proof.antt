@@ -11,7 +11,7 @@ wide-requires c κs = search needs
 returns : tie.Need-returns
 returns c =
     let a = c .before .args in
-    ap (refusal (a .number) (a .field) (a .place)) (back64 (c .wide .result) (c .wide .ok) ∙ c .wide .ensures ∙ back32 (a .value) (c .before .fits .value .sfits))
+    ap (refusal (a .number) (a .spot) (a .place)) (back64 (c .wide .result) (c .wide .ok) ∙ c .wide .ensures ∙ back32 (a .value) (c .before .fits .value .sfits))
 
 pub refused-spec : {M : Type 1} → statement M
 refused-spec = tie.close (tie.spec wide-requires returns)

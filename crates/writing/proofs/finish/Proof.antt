@@ -3,14 +3,14 @@ use mathlib.Core.Path.{_≡_, refl, sym, _∙_}
 use mathlib.Core.List.{List, [], append-nil}
 use Prim.Native.Nat.{ℕ, _-_, _≤_, _<_}
 use native.Mathlib.Omega.{arith}
-use lib.IntN.{ℤ, pos}
+use lib.IntN.{ℤ}
 use lib.ListN.{length, take, drop}
 use lib.Seq.{take-at, drop-length}
 use borrow.Author.Needs.{needs}
 use borrow.Author.Tests.{lt-ltb, le-ltb}
 use borrow.Rule.Slice.PartMut.{midOf, postOf, putMid, post-is, mid-len}
 use Rattle.format.specs.Writing.{writing}
-use Rattle.format.specs.Reading.{refusal}
+use Rattle.format.specs.Reading.{bare}
 use Rattle.format.specs.Tables.{zeros}
 use Rattle.format.specs.declared.Refusal.{Refusal}
 use Rattle.format.specs.declared.Written.the-variants as W
@@ -23,7 +23,7 @@ module _ {most n : ℕ} {ws old out : List ℤ} (x : Lays most 0 ws old out n) w
   count : n ≡ length ws
   count = omega (arith, x .next)
 
-  short : {q : Refusal} {new : List ℤ} → length out < n → q ≡ refusal 16 0 0 (pos 0) → new ≡ zeros (length out) → writing (W.Refused q) new ≡ answer ws (length old)
+  short : {q : Refusal} {new : List ℤ} → length out < n → q ≡ bare 16 → new ≡ zeros (length out) → writing (W.Refused q) new ≡ answer ws (length old)
   short h e z = rw (lt-ltb (length old) (length ws) (omega (arith, count, lays-long x)), e, z, lays-long x) refl
 
   front : n ≤ length out → take n out ≡ ws
@@ -37,7 +37,7 @@ module _ {most n : ℕ} {ws old out : List ℤ} (x : Lays most 0 ws old out n) w
       rw (le-ltb (length old) (length ws) (omega (arith, count, lays-long x)), front h, behind h, append-nil zs, z, mid-len n (length out) out (omega arith), lays-long x, count) refl
 
 returns : tie.Need-returns
-returns c = λ most ws old x. short x (c .before .before .before .before .if1 .taken) (c .refused .ensures) (c .before .before .clear .ensures)
+returns c = λ most ws old x. short x (c .before .before .before .before .if1 .taken) (c .bare .ensures) (c .before .before .clear .ensures)
 
 returns-2 : tie.Need-returns-2
 returns-2 c = λ most ws old x. whole x (c .before .before .before .if1 .left) (c .before .clear2 .ensures)

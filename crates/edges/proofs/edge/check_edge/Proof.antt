@@ -61,7 +61,7 @@ returns c =
     let tb = rw (c .before .before .before .before .before .before .before .before .before .before .before .last .given .1, fb) at (c .before .before .before .before .before .before .before .before .before .before .before .before .before .test-b .ensures) in
     let ts = rw (c .before .before .before .before .before .before .before .source .given .1) at (c .before .before .before .before .before .before .before .before .before .listed .ensures .0) in
     let wrote = c .before .decode-transition .ensures ∙ ap (edgeRow 0) (meaning-same (a .kind) (e .source) (e .target) fa fb fc) in (
-      λ ws rooms. rw wrote (checked-ok (a .nstates) (a .nsets) (a .place) (a .kind) e ws rooms (a .next) (c .before .before .before .before .before .before .before .before .before .before .before .before .before .before .before .before .before .before .before .before .pre .1) (ta ws rooms) (tb ws rooms) (ts ws rooms)),
+      λ ws rooms. rw wrote (checked-ok (a .«record») (a .nstates) (a .nsets) (a .place) (a .kind) e ws rooms (a .next) (c .before .before .before .before .before .before .before .before .before .before .before .before .before .before .before .before .before .before .before .before .pre .1) (ta ws rooms) (tb ws rooms) (ts ws rooms)),
       rw (c .before .before .before .before .before .before .before .source .given .1) at (c .before .before .before .before .before .before .before .before .before .listed .ensures .1),
     )
 

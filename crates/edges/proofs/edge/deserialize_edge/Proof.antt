@@ -48,7 +48,7 @@ returns c =
     let six = rw (c .before .before .before .before .before .before .before .before .before .e .given .1) at (c .before .before .before .before .before .before .before .before .before .before .before .read-edge .ensures .0) in
     let kind = rw (c .before .before .before .before .kind .given .1, back32 (x .kind) (c .before .before .before .before .before .before .before .struct-told .given .1 .1 .0 .1)) at (c .before .before .before .before .before .before .known .ensures .0) in (
       λ rooms. c .before .check-edge .ensures .0 ws rooms
-          ∙ sym (ap rowed (edge-is (a .nstates) (a .nsets) ws rooms (a .at) ∙ ok-then _ _ _ _ _ (six rooms) ∙ ok-then _ _ _ _ _ (kind ws rooms))),
+          ∙ sym (ap rowed (edge-is (a .«record») (a .nstates) (a .nsets) ws rooms (a .at) ∙ ok-then _ _ _ _ _ (six rooms) ∙ ok-then _ _ _ _ _ (kind ws rooms))),
       c .before .check-edge .ensures .1,
     )
 
@@ -60,14 +60,14 @@ returns-2 c =
     let x = c .before .before .before .before .before .before .e .given .0 .0 in
     let six = rw (c .before .before .before .before .before .before .e .given .1) at (c .before .before .before .before .before .before .before .before .read-edge .ensures .0) in
     let kind = rw (c .before .r .given .1, back32 (x .kind) (c .before .before .before .before .struct-told .given .1 .1 .0 .1)) at (c .before .before .before .known .ensures .0) in
-    (λ rooms. sym (ap rowed (edge-is (a .nstates) (a .nsets) ws rooms (a .at) ∙ ok-then _ _ _ _ _ (six rooms) ∙ no-then _ _ _ _ _ (kind ws rooms))), tt)
+    (λ rooms. sym (ap rowed (edge-is (a .«record») (a .nstates) (a .nsets) ws rooms (a .at) ∙ ok-then _ _ _ _ _ (six rooms) ∙ no-then _ _ _ _ _ (kind ws rooms))), tt)
 
 returns-3 : tie.Need-returns-3
 returns-3 c =
     let a = c .before .before .before .before .args in
     let ws = now (a .words) in
     let six = rw (c .before .r2 .given .1) at (c .before .before .before .read-edge .ensures .0) in
-    (λ rooms. sym (ap rowed (edge-is (a .nstates) (a .nsets) ws rooms (a .at) ∙ no-then _ _ _ _ _ (six rooms))), tt)
+    (λ rooms. sym (ap rowed (edge-is (a .«record») (a .nstates) (a .nsets) ws rooms (a .at) ∙ no-then _ _ _ _ _ (six rooms))), tt)
 
 pub deserialize-edge-spec : {M : Type 1} → statement M
 deserialize-edge-spec =

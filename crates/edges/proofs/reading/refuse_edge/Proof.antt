@@ -5,6 +5,7 @@ use mathlib.Core.Path.{_≡_, sym, _∙_}
 use Prim.Native.Nat.{_+_, _-_, _<_}
 use native.Mathlib.Omega.{arith}
 use lib.ListN.{length}
+use Rattle.format.specs.Reading.{spot}
 use Rattle.laws.specs.Running.{ok-then, no-then}
 use Rattle.edges.specs.Edge.{sixWords}
 use Rattle.edges.specs.Laws.{index-next, index-there, type-ended}
@@ -23,17 +24,17 @@ read-usize-requires-2 c κs = search needs
 enum-told : tie.Need-enum-told
 enum-told c = search needs
 
-sub-t11 : tie.Need-sub-t11
-sub-t11 c =
+sub-t14 : tie.Need-sub-t14
+sub-t14 c =
     let a = c .before .before .before .before .before .before .before .args in
     let one = rw (c .before .before .before .before .second .given .1) at (c .before .before .before .before .before .before .read-usize .ensures .0) in
-    omega (arith, index-there 24 (now (a .words)) (λ t. 0) (a .at) (one (λ t. 0)))
+    omega (arith, index-there (spot 24 (a .«record»)) (now (a .words)) (λ t. 0) (a .at) (one (λ t. 0)))
 
-cast-t12 : tie.Need-cast-t12
-cast-t12 c = search needs
+cast-t15 : tie.Need-cast-t15
+cast-t15 c = search needs
 
-add-t13 : tie.Need-add-t13
-add-t13 c = search needs
+add-t16 : tie.Need-add-t16
+add-t16 c = search needs
 
 enum-known-r : tie.Need-enum-known-r
 enum-known-r c = search needs
@@ -50,11 +51,11 @@ returns c =
     let t = c .enum-told .given in
     let one = rw (s .1) at (c .before .before .before .before .before .before .read-usize .ensures .0) in
     let two = rw (t .1) at (c .before .before .read-usize2 .ensures .0) in
-    let p : s .0 .1 .0 ≡ a .at + 1 = index-next 24 ws (λ t. 0) (a .at) (one (λ t. 0)) in
-    let q : t .0 .1 .0 ≡ s .0 .1 .0 + 1 = index-next 25 ws (λ t. 0) (s .0 .1 .0) (two (λ t. 0)) in
-    let l : s .0 .1 .0 < length ws = index-there 25 ws (λ t. 0) (s .0 .1 .0) (two (λ t. 0)) in
+    let p : s .0 .1 .0 ≡ a .at + 1 = index-next (spot 24 (a .«record»)) ws (λ t. 0) (a .at) (one (λ t. 0)) in
+    let q : t .0 .1 .0 ≡ s .0 .1 .0 + 1 = index-next (spot 25 (a .«record»)) ws (λ t. 0) (s .0 .1 .0) (two (λ t. 0)) in
+    let l : s .0 .1 .0 < length ws = index-there (spot 25 (a .«record»)) ws (λ t. 0) (s .0 .1 .0) (two (λ t. 0)) in
     let e : 24 + (length ws - a .at) ≡ 26 + (length ws - t .0 .1 .0) = omega arith in
-    λ rooms. rw e (type-ended ws rooms (t .0 .1 .0) _ _ (omega arith) (omega arith)) ∙ sym (ok-then _ _ _ _ _ (one rooms) ∙ ok-then _ _ _ _ _ (two rooms))
+    λ rooms. rw e (type-ended (a .«record») ws rooms (t .0 .1 .0) _ _ (omega arith) (omega arith)) ∙ sym (ok-then _ _ _ _ _ (one rooms) ∙ ok-then _ _ _ _ _ (two rooms))
 
 returns-2 : tie.Need-returns-2
 unfolding sixWords
@@ -72,9 +73,9 @@ refuse-edge-spec =
     enum-known-second
     read-usize-requires-2
     enum-told
-    sub-t11
-    cast-t12
-    add-t13
+    sub-t14
+    cast-t15
+    add-t16
     enum-known-r
     enum-known-r-2
     returns

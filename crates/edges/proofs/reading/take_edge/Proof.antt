@@ -39,44 +39,44 @@ sign-of-requires-2 c κs = search needs
 enum-known-target : tie.Need-enum-known-target
 enum-known-target c = search needs
 
-add-t16 : tie.Need-add-t16
-add-t16 c = search needs
+add-t17 : tie.Need-add-t17
+add-t17 c = search needs
 
-mul-t17 : tie.Need-mul-t17
-mul-t17 c = search needs
+mul-t18 : tie.Need-mul-t18
+mul-t18 c = search needs
 
-shared-slice-copy-out-t19 : tie.Need-shared-slice-copy-out-t19
-shared-slice-copy-out-t19 c = search needs
+shared-slice-copy-out-t20 : tie.Need-shared-slice-copy-out-t20
+shared-slice-copy-out-t20 c = search needs
 
-add-t20 : tie.Need-add-t20
-add-t20 c = search needs
+add-t21 : tie.Need-add-t21
+add-t21 c = search needs
 
-mul-t21 : tie.Need-mul-t21
-mul-t21 c = search needs
+mul-t22 : tie.Need-mul-t22
+mul-t22 c = search needs
 
-shared-slice-copy-out-t23 : tie.Need-shared-slice-copy-out-t23
-shared-slice-copy-out-t23 c = search needs
+shared-slice-copy-out-t24 : tie.Need-shared-slice-copy-out-t24
+shared-slice-copy-out-t24 c = search needs
 
-add-t24 : tie.Need-add-t24
-add-t24 c = search needs
+add-t25 : tie.Need-add-t25
+add-t25 c = search needs
 
-mul-t25 : tie.Need-mul-t25
-mul-t25 c = search needs
+mul-t26 : tie.Need-mul-t26
+mul-t26 c = search needs
 
-shared-slice-copy-out-t27 : tie.Need-shared-slice-copy-out-t27
-shared-slice-copy-out-t27 c = search needs
+shared-slice-copy-out-t28 : tie.Need-shared-slice-copy-out-t28
+shared-slice-copy-out-t28 c = search needs
 
-add-t28 : tie.Need-add-t28
-add-t28 c = search needs
+add-t29 : tie.Need-add-t29
+add-t29 c = search needs
 
-mul-t29 : tie.Need-mul-t29
-mul-t29 c = search needs
+mul-t30 : tie.Need-mul-t30
+mul-t30 c = search needs
 
-shared-slice-copy-out-t31 : tie.Need-shared-slice-copy-out-t31
-shared-slice-copy-out-t31 c = search needs
+shared-slice-copy-out-t32 : tie.Need-shared-slice-copy-out-t32
+shared-slice-copy-out-t32 c = search needs
 
-add-t33 : tie.Need-add-t33
-add-t33 c = search needs
+add-t34 : tie.Need-add-t34
+add-t34 c = search needs
 
 enum-told : tie.Need-enum-told
 enum-told c = search needs
@@ -114,7 +114,7 @@ returns c =
     let ws = now (a .words) in
     let s = its-sign (getD ws (a .at) (pos 0)) (c .before .before .before .before .before .before .before .before .before .before .before .before .before .sign-of-arg .given) (c .before .before .before .before .before .before .before .before .before .before .before .before .sign-of .ensures) (c .before .before .before .before .before .before .before .before .before .before .source .given .1) in
     let t = its-sign (getD ws (a .at + 1) (pos 0)) (c .before .before .before .before .before .before .before .before .sign-of-arg2 .given) (c .before .before .before .before .before .before .before .sign-of2 .ensures) (c .before .before .before .before .before .target .given .1) in (
-      λ rooms. rw (back32 (getD ws (a .at + 2) (pos 0)) (c .before .before .before .t19 .given), back32 (getD ws (a .at + 3) (pos 0)) (c .before .before .t23 .given), back32 (getD ws (a .at + 4) (pos 0)) (c .before .t27 .given), back32 (getD ws (a .at + 5) (pos 0)) (c .t31 .given)) (six-ok ws rooms (a .at) (c .before .before .before .before .before .before .before .before .before .before .before .before .before .before .pre) s t),
+      λ rooms. rw (back32 (getD ws (a .at + 2) (pos 0)) (c .before .before .before .t20 .given), back32 (getD ws (a .at + 3) (pos 0)) (c .before .before .t24 .given), back32 (getD ws (a .at + 4) (pos 0)) (c .before .t28 .given), back32 (getD ws (a .at + 5) (pos 0)) (c .t32 .given)) (six-ok (a .«record») ws rooms (a .at) (c .before .before .before .before .before .before .before .before .before .before .before .before .before .before .pre) s t),
       (natural-small (getD ws (a .at) (pos 0)) _ _ s (c .before .before .before .before .before .before .before .before .before .before .before .before .before .sign-of-arg .given), natural-small (getD ws (a .at + 1) (pos 0)) _ _ t (c .before .before .before .before .before .before .before .before .sign-of-arg2 .given), refl),
     )
 
@@ -124,14 +124,14 @@ returns-2 c =
     let ws = now (a .words) in
     let s = its-sign (getD ws (a .at) (pos 0)) (c .before .before .before .before .before .before .before .before .before .before .sign-of-arg .given) (c .before .before .before .before .before .before .before .before .before .sign-of .ensures) (c .before .before .before .before .before .before .before .source .given .1) in
     let t = its-sign (getD ws (a .at + 1) (pos 0)) (c .before .before .before .before .before .sign-of-arg2 .given) (c .before .before .before .before .sign-of2 .ensures) (c .before .before .enum-told .given .1) in
-    (λ rooms. rw (c .refused .ensures, back32 (getD ws (a .at + 1) (pos 0)) (c .before .refused-arg .given)) (six-second ws rooms (a .at) (omega arith) s t), tt)
+    (λ rooms. rw (c .refused .ensures, back32 (getD ws (a .at + 1) (pos 0)) (c .before .refused-arg .given)) (six-second (a .«record») ws rooms (a .at) (omega arith) s t), tt)
 
 returns-3 : tie.Need-returns-3
 returns-3 c =
     let a = c .before .before .before .before .before .before .args in
     let ws = now (a .words) in
     let s = its-sign (getD ws (a .at) (pos 0)) (c .before .before .before .before .before .sign-of-arg .given) (c .before .before .before .before .sign-of .ensures) (c .before .before .enum-told2 .given .1) in
-    (λ rooms. rw (c .refused2 .ensures, back32 (getD ws (a .at) (pos 0)) (c .before .refused-arg2 .given)) (six-first ws rooms (a .at) (omega arith) s), tt)
+    (λ rooms. rw (c .refused2 .ensures, back32 (getD ws (a .at) (pos 0)) (c .before .refused-arg2 .given)) (six-first (a .«record») ws rooms (a .at) (omega arith) s), tt)
 
 pub take-edge-spec : {M : Type 1} → statement M
 take-edge-spec =
@@ -146,19 +146,19 @@ take-edge-spec =
     shared-slice-copy-out-sign-of-2
     sign-of-requires-2
     enum-known-target
-    add-t16
-    mul-t17
-    shared-slice-copy-out-t19
-    add-t20
-    mul-t21
-    shared-slice-copy-out-t23
-    add-t24
-    mul-t25
-    shared-slice-copy-out-t27
-    add-t28
-    mul-t29
-    shared-slice-copy-out-t31
-    add-t33
+    add-t17
+    mul-t18
+    shared-slice-copy-out-t20
+    add-t21
+    mul-t22
+    shared-slice-copy-out-t24
+    add-t25
+    mul-t26
+    shared-slice-copy-out-t28
+    add-t29
+    mul-t30
+    shared-slice-copy-out-t32
+    add-t34
     enum-told
     add-refused
     add-refused-2

@@ -9,7 +9,7 @@ use denote.Ref.{now}
 use Rattle.format.specs.Sections.{size}
 use Rattle.inplace.specs.Rows.{wordOf}
 use Rattle.inplace.specs.Links.{net, growing, returnsAlong}
-use Rattle.tables.specs.Words.{spot}
+use Rattle.tables.specs.Words.{numberOf}
 use Rattle.links.specs.Returns.{along-over, along-off, along-on}
 use Rattle.links.proofs.returns.add_along.Statement.{statement}
 use Rattle.links.proofs.returns.add_along.Tie as tie
@@ -20,7 +20,7 @@ Inv-loop states₀ edges₀ rules n k room s before m₀ e₀ left₀ states edg
     × (length edges ≡ length edges₀)
     × (m ≤ room)
     × ((z : ℤ)
-    × (e ≡ spot z)
+    × (e ≡ numberOf z)
     × (returnsAlong room n k rules (size (wordOf 8 states₀ s 7)) (wordOf 8 states₀ s 5) (growing (net states₀ edges₀) before)
     ≡ returnsAlong room n k rules left z (growing (net states edges) m)))
 

@@ -5,7 +5,7 @@ use Prim.Native.Nat.{ℕ}
 use native.Mathlib.Omega.{arith}
 use lib.IntN.{ℤ}
 use borrow.Author.Needs.{needs}
-use Rattle.format.specs.Reading.{Prog, done, run, _>>=_, known}
+use Rattle.format.specs.Reading.{Prog, done, run, _>>=_, spot, known}
 use Rattle.format.specs.Sections.{Action, actionOf}
 use Rattle.format.specs.Tables.{actionWords}
 use Rattle.words.proofs.Signs.{back32}
@@ -52,13 +52,13 @@ returns c = λ ws rooms.
     let x = c .before .before .before .first-kept in
     let y = c .before .before .second-kept in
     rw (c .before .write-three .ensures, back32 (k .result) (k .ok), k .ensures, back32 (x .result) (x .ok), x .ensures, back32 (a .d1) (f .d1 .sfits), back32 (y .result) (y .ok), y .ensures, back32 (a .d2) (f .d2 .sfits))
-    (sym (ok-through (known 11 0 7 33 (a .place) (a .kind)) (kept (a .d1) (a .d2)) row ws rooms (a .next)
+    (sym (ok-through (known 11 0 7 (spot 33 (a .«record»)) (a .place) (a .kind)) (kept (a .d1) (a .d2)) row ws rooms (a .next)
     (rw (c .before .before .before .before .before .before .before .k .given .1, back32 (a .kind) (f .kind .sfits)) at (c .before .before .before .before .before .before .before .before .before .known .ensures .0 ws rooms))))
 
 returns-2 : tie.Need-returns-2
 returns-2 c = λ ws rooms.
     let a = c .before .before .before .before .args in
-    sym (no-through (known 11 0 7 33 (a .place) (a .kind)) (kept (a .d1) (a .d2)) row ws rooms (a .next)
+    sym (no-through (known 11 0 7 (spot 33 (a .«record»)) (a .place) (a .kind)) (kept (a .d1) (a .d2)) row ws rooms (a .next)
     (rw (c .before .r .given .1, back32 (a .kind) (c .before .before .before .before .fits .kind .sfits)) at (c .before .before .before .known .ensures .0 ws rooms)))
 
 pub decode-lexer-action-spec : {M : Type 1} → statement M

@@ -48,7 +48,7 @@ returns c = λ rooms.
     let e = c .before .before .before .before .d2 .given in
     (rw (back32 (w .0 .0) (c .before .before .before .before .before .before .before .before .before .before .before .known-told .given .0 .1), back32 (d .0 .0) (c .before .before .before .before .before .before .before .known-told2 .given .0 .1), back32 (e .0 .0) (c .before .before .before .known-told3 .given .0 .1))
     at (c .before .decode-lexer-action .ensures (now (a .words)) rooms))
-    ∙ after-three (now (a .words)) rooms (a .at)
+    ∙ after-three (a .«record») (now (a .words)) rooms (a .at)
     (rw (w .1) at (c .before .before .before .before .before .before .before .before .before .before .before .before .before .before .read .ensures rooms))
     (rw (d .1) at (c .before .before .before .before .before .before .before .before .before .before .read2 .ensures rooms))
     (rw (e .1) at (c .before .before .before .before .before .before .read3 .ensures rooms))
@@ -58,7 +58,7 @@ returns-2 c = λ rooms.
     let a = c .before .before .before .before .before .before .before .before .before .before .before .before .args in
     let w = c .before .before .before .before .before .before .before .before .before .kind .given in
     let d = c .before .before .before .before .before .d1 .given in
-    third-ends (now (a .words)) rooms (a .at)
+    third-ends (a .«record») (now (a .words)) rooms (a .at)
     (rw (w .1) at (c .before .before .before .before .before .before .before .before .before .before .before .read .ensures rooms))
     (rw (d .1) at (c .before .before .before .before .before .before .before .read2 .ensures rooms))
     (rw (c .before .r .given .1) at (c .before .before .before .read3 .ensures rooms))
@@ -67,14 +67,14 @@ returns-3 : tie.Need-returns-3
 returns-3 c = λ rooms.
     let a = c .before .before .before .before .before .before .before .before .args in
     let w = c .before .before .before .before .before .kind .given in
-    second-ends (now (a .words)) rooms (a .at)
+    second-ends (a .«record») (now (a .words)) rooms (a .at)
     (rw (w .1) at (c .before .before .before .before .before .before .before .read .ensures rooms))
     (rw (c .before .r2 .given .1) at (c .before .before .before .read2 .ensures rooms))
 
 returns-4 : tie.Need-returns-4
 returns-4 c = λ rooms.
     let a = c .before .before .before .before .args in
-    first-ends (now (a .words)) rooms (a .at) (rw (c .before .r3 .given .1) at (c .before .before .before .read .ensures rooms))
+    first-ends (a .«record») (now (a .words)) rooms (a .at) (rw (c .before .r3 .given .1) at (c .before .before .before .read .ensures rooms))
 
 pub deserialize-lexer-action-spec : {M : Type 1} → statement M
 deserialize-lexer-action-spec =

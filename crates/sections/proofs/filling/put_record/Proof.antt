@@ -47,7 +47,7 @@ unfolding run
 returns c = λ rooms.
     let a = c .before .before .before .before .args in
     let w = width (tableOf (a .which)) in
-    let p = rowOf (tableOf (a .which)) in
+    let p = rowOf (tableOf (a .which)) (a .i) in
     rw (c .before .before .before .width-of .ensures, post-is (w * a .i) (w * a .i + w) (now (a .table)) (omega arith))
     (told-map (c .before .deserialize-record .result) (c .before .deserialize-record .last .1 .0) (λ r. put w (a .i) r (now (a .table)))
     ∙ ap (λ o. after o (λ r n. ok (put w (a .i) r (now (a .table))) n)) (c .before .deserialize-record .ensures rooms)

@@ -39,7 +39,7 @@ returns c =
     let a = c .before .before .before .before .before .before .before .before .args in
     let l = c .before .before .before .before .before .before .before .loop in
     turned-no (flagOne (a .bit) (a .n) (a .field)) (a .k) (now (a .words)) (now (a .states)) (a .first)
-    (l .i) (l .states) (l .at) (l .inv .2) (c .before .before .before .before .before .before .loop-test .taken) (λ rooms. rw (c .before .r .given .1) at (c .before .before .before .before .flag-one .ensures rooms (l .i)))
+    (l .i) (l .states) (l .at) (l .inv .2) (c .before .before .before .before .before .before .loop-test .taken) (λ rooms. rw (c .before .r .given .1) at (c .before .before .before .before .flag-one .ensures rooms))
 
 add-i : tie.Need-add-i Inv-loop μ-loop
 add-i c = omega arith
@@ -54,7 +54,7 @@ loop-again c =
       c .before .before .before .before .flag-one .kept .0 ∙ l .inv .0,
       omega arith,
       turned-more (flagOne (a .bit) (a .n) (a .field)) (a .k) (now (a .words)) (now (a .states)) (a .first)
-          (l .i) (l .states) (l .at) (l .inv .2) (c .before .before .before .before .before .before .loop-test .taken) (λ rooms. rw (c .before .next .given .1) at (c .before .before .before .before .flag-one .ensures rooms (l .i))),
+          (l .i) (l .states) (l .at) (l .inv .2) (c .before .before .before .before .before .before .loop-test .taken) (λ rooms. rw (c .before .next .given .1) at (c .before .before .before .before .flag-one .ensures rooms)),
     )
 
 same-length-2 : tie.Need-same-length-2 Inv-loop μ-loop

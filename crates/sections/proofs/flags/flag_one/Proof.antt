@@ -28,17 +28,17 @@ same-length c = search needs
 
 returns : tie.Need-returns
 unfolding run flagOne
-returns c = λ rooms i.
+returns c = λ rooms.
     let a = c .before .before .before .before .before .before .before .args in
     rw (c .before .set-flag .ensures)
-    (sym (ok-then (named (a .n) (a .field)) (λ s. done (flagAt (a .bit) s (now (a .states)))) (now (a .words)) rooms (a .at)
+    (sym (ok-then (named (a .n) (a .spot)) (λ s. done (flagAt (a .bit) s (now (a .states)))) (now (a .words)) rooms (a .at)
     (rw (c .before .before .before .before .s .given .1) at (c .before .before .before .before .before .before .read-named .ensures .0 rooms))))
 
 returns-2 : tie.Need-returns-2
 unfolding flagOne
-returns-2 c = λ rooms i.
+returns-2 c = λ rooms.
     let a = c .before .before .before .before .args in
-    sym (no-then (named (a .n) (a .field)) (λ s. done (flagAt (a .bit) s (now (a .states)))) (now (a .words)) rooms (a .at)
+    sym (no-then (named (a .n) (a .spot)) (λ s. done (flagAt (a .bit) s (now (a .states)))) (now (a .words)) rooms (a .at)
     (rw (c .before .r .given .1) at (c .before .before .before .read-named .ensures .0 rooms)))
 
 pub flag-one-spec : {M : Type 1} → statement M

@@ -8,11 +8,12 @@ use borrow.Author.Needs.{needs}
 use Rattle.format.specs.Reading.{Table, ok, no, run, index, listed, _>>=_}
 use Rattle.format.specs.Sections.{named}
 use Rattle.format.specs.declared.Refusal.{Refusal}
+use Rattle.format.specs.declared.Spot.{Spot}
 use Rattle.laws.specs.Running.{ok-then, no-then}
 use Rattle.sections.proofs.flags.read_named.Statement.{statement}
 use Rattle.sections.proofs.flags.read_named.Tie as tie
 
-module _ (n f : ℕ) (ws : List ℤ) (rooms : Table → ℕ) (at : ℕ) where
+module _ (n : ℕ) (f : Spot) (ws : List ℤ) (rooms : Table → ℕ) (at : ℕ) where
   named-is : run (named n f) ws rooms at ≡ run (index f >>= listed 7 n f at) ws rooms at
   unfolding run index named _>>=_
   named-is = refl
@@ -40,7 +41,7 @@ returns c = (
   λ rooms.
       let a = c .before .before .before .before .before .args in
       c .listed .ensures .0 (now (a .words)) rooms
-      ∙ sym (named-ok (a .n) (a .field) (now (a .words)) rooms (a .at) (rw (c .before .before .s .given .1) at (c .before .before .before .before .read-usize .ensures .0 rooms))),
+      ∙ sym (named-ok (a .n) (a .spot) (now (a .words)) rooms (a .at) (rw (c .before .before .s .given .1) at (c .before .before .before .before .read-usize .ensures .0 rooms))),
   c .listed .ensures .1,
 )
 
@@ -48,7 +49,7 @@ returns-2 : tie.Need-returns-2
 returns-2 c = (
   λ rooms.
       let a = c .before .before .before .before .args in
-      sym (named-no (a .n) (a .field) (now (a .words)) rooms (a .at) (rw (c .before .r .given .1) at (c .before .before .before .read-usize .ensures .0 rooms))),
+      sym (named-no (a .n) (a .spot) (now (a .words)) rooms (a .at) (rw (c .before .r .given .1) at (c .before .before .before .read-usize .ensures .0 rooms))),
   tt,
 )
 

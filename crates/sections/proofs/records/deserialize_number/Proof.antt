@@ -34,12 +34,12 @@ returns c = λ rooms.
     let a = c .before .before .before .before .before .args in
     let s = c .before .before .s .given .0 .0 in
     rw (back32 (c .word-of .result) (c .word-of .ok), c .word-of .ensures, all-set (stateWord s) (now (a .part)) (c .before .before .before .before .before .pre))
-    (sym (ok-then (index (a .field)) (λ s. done (stateWord s)) (now (a .words)) rooms (a .at) (rw (c .before .before .s .given .1) at (c .before .before .before .before .read-usize .ensures .0 rooms))))
+    (sym (ok-then (index (a .spot)) (λ s. done (stateWord s)) (now (a .words)) rooms (a .at) (rw (c .before .before .s .given .1) at (c .before .before .before .before .read-usize .ensures .0 rooms))))
 
 returns-2 : tie.Need-returns-2
 returns-2 c = λ rooms.
     let a = c .before .before .before .before .args in
-    sym (no-then (index (a .field)) (λ s. done (stateWord s)) (now (a .words)) rooms (a .at) (rw (c .before .r .given .1) at (c .before .before .before .read-usize .ensures .0 rooms)))
+    sym (no-then (index (a .spot)) (λ s. done (stateWord s)) (now (a .words)) rooms (a .at) (rw (c .before .r .given .1) at (c .before .before .before .read-usize .ensures .0 rooms)))
 
 pub deserialize-number-spec : {M : Type 1} → statement M
 deserialize-number-spec =

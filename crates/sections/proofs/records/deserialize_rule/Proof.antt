@@ -5,7 +5,7 @@ use Prim.Native.Nat.{ℕ}
 use denote.Ref.{now}
 use lib.IntN.{ℤ, pos}
 use borrow.Author.Needs.{needs}
-use Rattle.format.specs.Reading.{Prog, done, run, _>>=_, get, index}
+use Rattle.format.specs.Reading.{Prog, done, run, _>>=_, spot, get, index}
 use Rattle.format.specs.Sections.{Rule, none, rule}
 use Rattle.inplace.specs.Sections.{rowOf}
 use Rattle.words.proofs.Signs.{back32}
@@ -16,8 +16,8 @@ use Rattle.sections.proofs.records.deserialize_rule.Tie as tie
 abbrev ruled : ℕ → ℤ → Prog Rule
 ruled s t = done (record { start = s; token = t })
 
-abbrev starting : ℕ → Prog Rule
-starting s = get 15 >>= ruled s
+abbrev starting : ℕ → ℕ → Prog Rule
+starting i s = get (spot 15 i) >>= ruled s
 
 abbrev row : Rule → Prog (List ℤ)
 row x = done (pos (x .start) ∷ none ∷ x .token ∷ [])
@@ -57,22 +57,22 @@ returns c = λ rooms.
     let t = c .before .before .before .before .before .token .given in
     let w = c .before .before .word-of in
     rw (c .before .write-three .ensures, back32 (w .result) (w .ok), w .ensures, back32 (t .0 .0) (c .before .before .before .before .known-told2 .given .0 .1))
-    (sym (ok-through (index 14) starting row (now (a .words)) rooms (a .at) (rw (s .1) at (c .before .before .before .before .before .before .before .before .before .before .before .read-usize .ensures .0 rooms))
-    ∙ ok-through (get 15) (ruled (s .0 .0)) row (now (a .words)) rooms (s .0 .1 .0) (rw (t .1) at (c .before .before .before .before .before .before .before .read .ensures rooms))))
+    (sym (ok-through (index (spot 14 (a .«record»))) (starting (a .«record»)) row (now (a .words)) rooms (a .at) (rw (s .1) at (c .before .before .before .before .before .before .before .before .before .before .before .read-usize .ensures .0 rooms))
+    ∙ ok-through (get (spot 15 (a .«record»))) (ruled (s .0 .0)) row (now (a .words)) rooms (s .0 .1 .0) (rw (t .1) at (c .before .before .before .before .before .before .before .read .ensures rooms))))
 
 returns-2 : tie.Need-returns-2
 unfolding rowOf rule
 returns-2 c = λ rooms.
     let a = c .before .before .before .before .before .before .before .before .args in
     let s = c .before .before .before .before .before .start .given in
-    sym (ok-through (index 14) starting row (now (a .words)) rooms (a .at) (rw (s .1) at (c .before .before .before .before .before .before .before .read-usize .ensures .0 rooms))
-    ∙ no-through (get 15) (ruled (s .0 .0)) row (now (a .words)) rooms (s .0 .1 .0) (rw (c .before .r .given .1) at (c .before .before .before .read .ensures rooms)))
+    sym (ok-through (index (spot 14 (a .«record»))) (starting (a .«record»)) row (now (a .words)) rooms (a .at) (rw (s .1) at (c .before .before .before .before .before .before .before .read-usize .ensures .0 rooms))
+    ∙ no-through (get (spot 15 (a .«record»))) (ruled (s .0 .0)) row (now (a .words)) rooms (s .0 .1 .0) (rw (c .before .r .given .1) at (c .before .before .before .read .ensures rooms)))
 
 returns-3 : tie.Need-returns-3
 unfolding rowOf rule
 returns-3 c = λ rooms.
     let a = c .before .before .before .before .args in
-    sym (no-through (index 14) starting row (now (a .words)) rooms (a .at) (rw (c .before .r2 .given .1) at (c .before .before .before .read-usize .ensures .0 rooms)))
+    sym (no-through (index (spot 14 (a .«record»))) (starting (a .«record»)) row (now (a .words)) rooms (a .at) (rw (c .before .r2 .given .1) at (c .before .before .before .read-usize .ensures .0 rooms)))
 
 pub deserialize-rule-spec : {M : Type 1} → statement M
 deserialize-rule-spec =

@@ -21,7 +21,7 @@ same-length c = search needs
 returns : tie.Need-returns
 returns c = λ rooms.
     let f = sym (c .before .before .before .before .words-after .ensures) ∙ c .before .before .before .if1 .taken in
-    rw (c .before .write-state .ensures, f) (none-ok (c .before .before .before .before .before .args .kind) (now (c .before .before .before .before .before .args .words)) rooms (c .before .before .before .before .before .args .at))
+    rw (c .before .write-state .ensures, f) (none-ok (c .before .before .before .before .before .args .«record») (c .before .before .before .before .before .args .kind) (now (c .before .before .before .before .before .args .words)) rooms (c .before .before .before .before .before .args .at))
 
 same-length-2 : tie.Need-same-length-2
 same-length-2 c = search needs

@@ -44,13 +44,13 @@ returns c = λ rooms.
     let a = c .before .before .before .before .before .before .before .before .before .args in
     let w = c .before .before .word-of in
     rw (c .before .write-state .ensures, back32 (a .rule) (c .before .before .before .before .before .before .before .before .before .fits .rule .sfits), back32 (w .result) (w .ok), w .ensures)
-    (back-ok (a .kind) (now (a .words)) rooms (a .at) (a .rule) (c .before .before .before .before .before .before .before .before .if1 .taken)
+    (back-ok (a .«record») (a .kind) (now (a .words)) rooms (a .at) (a .rule) (c .before .before .before .before .before .before .before .before .if1 .taken)
     (rw (c .before .before .before .before .before .n .given .1) at (c .before .before .before .before .before .before .before .read-usize .ensures .0 rooms)))
 
 returns-2 : tie.Need-returns-2
 returns-2 c = λ rooms.
     let a = c .before .before .before .before .before .args in
-    back-no (a .kind) (now (a .words)) rooms (a .at) (a .rule) (c .before .before .before .before .if1 .taken) (rw (c .before .r .given .1) at (c .before .before .before .read-usize .ensures .0 rooms))
+    back-no (a .«record») (a .kind) (now (a .words)) rooms (a .at) (a .rule) (c .before .before .before .before .if1 .taken) (rw (c .before .r .given .1) at (c .before .before .before .read-usize .ensures .0 rooms))
 
 same-length-2 : tie.Need-same-length-2
 same-length-2 c = search needs
@@ -60,13 +60,13 @@ returns-3 c = λ rooms.
     let a = c .before .before .before .before .before .before .before .before .before .args in
     let w = c .before .before .word-of2 in
     rw (c .before .write-state2 .ensures, back32 (a .rule) (c .before .before .before .before .before .before .before .before .before .fits .rule .sfits), back32 (w .result) (w .ok), w .ensures)
-    (end-ok (a .kind) (now (a .words)) rooms (a .at) (a .rule) (c .before .before .before .before .before .before .before .before .if1 .left)
+    (end-ok (a .«record») (a .kind) (now (a .words)) rooms (a .at) (a .rule) (c .before .before .before .before .before .before .before .before .if1 .left)
     (rw (c .before .before .before .before .before .n2 .given .1) at (c .before .before .before .before .before .before .before .read-usize2 .ensures .0 rooms)))
 
 returns-4 : tie.Need-returns-4
 returns-4 c = λ rooms.
     let a = c .before .before .before .before .before .args in
-    end-no (a .kind) (now (a .words)) rooms (a .at) (a .rule) (c .before .before .before .before .if1 .left) (rw (c .before .r2 .given .1) at (c .before .before .before .read-usize2 .ensures .0 rooms))
+    end-no (a .«record») (a .kind) (now (a .words)) rooms (a .at) (a .rule) (c .before .before .before .before .if1 .left) (rw (c .before .r2 .given .1) at (c .before .before .before .read-usize2 .ensures .0 rooms))
 
 pub deserialize-link-spec : {M : Type 1} → statement M
 deserialize-link-spec =

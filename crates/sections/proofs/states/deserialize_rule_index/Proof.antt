@@ -29,7 +29,7 @@ returns c = λ rooms.
     let o = c .before .before .or-none in
     let f : a .follow ≡ 1 = c .before .before .before .before .if1 .taken in
     rw (c .before .write-state .ensures, back32 (o .result) (o .ok), o .ensures, back32 (v .0 .0) (c .before .before .before .before .before .known-told .given .0 .1), f)
-    (rule-ok (a .kind) (now (a .words)) rooms (a .at) (rw (v .1) at (c .before .before .before .before .before .before .before .before .read .ensures rooms)))
+    (rule-ok (a .«record») (a .kind) (now (a .words)) rooms (a .at) (rw (v .1) at (c .before .before .before .before .before .before .before .before .read .ensures rooms)))
 
 or-none-requires-2 : tie.Need-or-none-requires-2
 or-none-requires-2 c κs = search needs
@@ -49,13 +49,13 @@ returns-2 c = λ rooms.
     let v = c .before .before .before .before .before .before .v .given in
     let o = c .before .before .or-none2 in
     (rw (back32 (o .result) (o .ok), o .ensures, back32 (v .0 .0) (c .before .before .before .before .before .known-told .given .0 .1)) at (c .before .deserialize-link .ensures rooms))
-    ∙ link-ok (a .kind) (now (a .words)) rooms (a .at) (a .follow) (c .before .before .before .before .before .before .before .before .before .pre .2) (c .before .before .before .before .if1 .left)
+    ∙ link-ok (a .«record») (a .kind) (now (a .words)) rooms (a .at) (a .follow) (c .before .before .before .before .before .before .before .before .before .pre .2) (c .before .before .before .before .if1 .left)
     (rw (v .1) at (c .before .before .before .before .before .before .before .before .read .ensures rooms))
 
 returns-3 : tie.Need-returns-3
 returns-3 c = λ rooms.
     let a = c .before .before .before .before .args in
-    rule-no (a .kind) (now (a .words)) rooms (a .at) (a .follow) (c .before .before .before .before .pre .2) (rw (c .before .r .given .1) at (c .before .before .before .read .ensures rooms))
+    rule-no (a .«record») (a .kind) (now (a .words)) rooms (a .at) (a .follow) (c .before .before .before .before .pre .2) (rw (c .before .r .given .1) at (c .before .before .before .read .ensures rooms))
 
 pub deserialize-rule-index-spec : {M : Type 1} → statement M
 deserialize-rule-index-spec =

@@ -6,15 +6,15 @@ use denote.Ref.{now}
 use lib.IntN.{ℤ}
 use lib.ListN.{getD}
 use borrow.Author.Needs.{needs}
-use Rattle.format.specs.Reading.{Prog, done, word, known}
+use Rattle.format.specs.Reading.{Prog, done, word, spot, known}
 use Rattle.format.specs.Sections.{State, follows, following, state}
 use Rattle.inplace.specs.Rows.{stateRow}
 use Rattle.sections.specs.Through.{ok-through, no-through}
 use Rattle.sections.proofs.states.deserialize_state.Statement.{statement}
 use Rattle.sections.proofs.states.deserialize_state.Tie as tie
 
-rest : ℕ → Prog State
-rest k = following (getD follows k 0) k
+rest : ℕ → ℕ → Prog State
+rest i k = following i (getD follows k 0) k
 
 row : State → Prog (List ℤ)
 row x = done (stateRow x)
@@ -39,14 +39,14 @@ unfolding state rest row
 returns c = λ rooms.
     let a = c .before .before .before .before .before .before .before .args in
     c .before .deserialize-following .ensures rooms
-    ∙ sym (ok-through (word 5 (known 6 0 12 5)) rest row (now (a .words)) rooms (a .at)
+    ∙ sym (ok-through (word (spot 5 (a .«record»)) (known 6 0 12 (spot 5 (a .«record»)))) (rest (a .«record»)) row (now (a .words)) rooms (a .at)
     (rw (c .before .before .before .before .kind .given .1) at (c .before .before .before .before .before .before .decode-state-kind .ensures .0 rooms)))
 
 returns-2 : tie.Need-returns-2
 unfolding state rest row
 returns-2 c = λ rooms.
     let a = c .before .before .before .before .args in
-    sym (no-through (word 5 (known 6 0 12 5)) rest row (now (a .words)) rooms (a .at)
+    sym (no-through (word (spot 5 (a .«record»)) (known 6 0 12 (spot 5 (a .«record»)))) (rest (a .«record»)) row (now (a .words)) rooms (a .at)
     (rw (c .before .r .given .1) at (c .before .before .before .decode-state-kind .ensures .0 rooms)))
 
 pub deserialize-state-spec : {M : Type 1} → statement M

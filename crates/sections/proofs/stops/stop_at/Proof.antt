@@ -8,14 +8,14 @@ use lib.IntN.{ℤ, pos}
 use lib.ListN.{getD}
 use borrow.Author.Needs.{needs}
 use Rattle.inplace.specs.Rows.{wordOf, stored}
-use Rattle.tables.specs.Words.{spot}
+use Rattle.tables.specs.Words.{numberOf}
 use Rattle.sections.specs.Stops.{stop-found, stop-outside, stop-other}
 use Rattle.sections.proofs.stops.stop_at.Statement.{statement}
 use Rattle.sections.proofs.stops.stop_at.Tie as tie
 
 -- the word 8 * s is word 0 of record s
-first : (t : List ℤ) (s n : ℕ) → n ≡ spot (getD t (8 * s) (pos 0)) → spot (wordOf 8 t s 0) ≡ n
-first t s n e = let q : 8 * s + 0 ≡ 8 * s = omega arith in ap (λ (i : ℕ). spot (getD t i (pos 0))) q ∙ sym e
+first : (t : List ℤ) (s n : ℕ) → n ≡ numberOf (getD t (8 * s) (pos 0)) → numberOf (wordOf 8 t s 0) ≡ n
+first t s n e = let q : 8 * s + 0 ≡ 8 * s = omega arith in ap (λ (i : ℕ). numberOf (getD t i (pos 0))) q ∙ sym e
 
 mul-number-at : tie.Need-mul-number-at
 mul-number-at c = search needs

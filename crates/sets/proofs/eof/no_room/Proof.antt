@@ -11,7 +11,7 @@ cast-t4 : tie.Need-cast-t4
 cast-t4 c = search needs
 
 returns : tie.Need-returns
-returns c = ap (refusal 12 (c .args .field) (c .args .place)) (toZ-pos w64 (c .args .needed) (c .pre))
+returns c = ap (refusal 12 (c .args .spot) (c .args .place)) (toZ-pos w64 (c .args .needed) (c .pre))
 
 pub no-room-spec : {M : Type 1} → statement M
 no-room-spec = tie.close (tie.spec cast-t4 returns)

@@ -45,7 +45,7 @@ returns c =
     let v = c .before .before .before .before .v .given in
     let f : c .before .before .raised .result ≡ raised (v .0 .0) = rw (back32 (v .0 .0) (c .before .before .before .known-told .given .0 .1)) at (c .before .before .raised .ensures) in
     let b : c .before .bit .result ≡ bit (raised (v .0 .0)) = c .before .bit .ensures ∙ ap bit f in (
-      λ rooms q. rw f (flag-ok (a .kept) (a .n) (now (a .words)) rooms (a .at) (rw (v .1) at (c .before .before .before .before .before .before .read .ensures rooms)) (omega arith)),
+      λ rooms q. rw f (flag-ok (a .«record») (a .kept) (a .n) (now (a .words)) rooms (a .at) (rw (v .1) at (c .before .before .before .before .before .before .read .ensures rooms)) (omega arith)),
       omega (arith, c .before .bit .ensures),
     )
 
@@ -56,14 +56,14 @@ returns-2 c =
     let f : c .before .before .before .raised .result ≡ raised (v .0 .0) = rw (back32 (v .0 .0) (c .before .before .before .before .known-told .given .0 .1)) at (c .before .before .before .raised .ensures) in
     let b : c .before .before .bit .result ≡ bit (raised (v .0 .0)) = c .before .before .bit .ensures ∙ ap bit f in (
       λ rooms q.
-          rw (c .no-room .ensures, b) (flag-full (a .kept) (a .n) (now (a .words)) rooms (a .at) (rw (v .1) at (c .before .before .before .before .before .before .before .read .ensures rooms)) (omega arith)),
+          rw (c .no-room .ensures, b) (flag-full (a .«record») (a .kept) (a .n) (now (a .words)) rooms (a .at) (rw (v .1) at (c .before .before .before .before .before .before .before .read .ensures rooms)) (omega arith)),
       tt,
     )
 
 returns-3 : tie.Need-returns-3
 returns-3 c =
     let a = c .before .before .before .before .args in
-    (λ rooms q. flag-no (a .kept) (a .n) (now (a .words)) rooms (a .at) (rw (c .before .r .given .1) at (c .before .before .before .read .ensures rooms)), tt)
+    (λ rooms q. flag-no (a .«record») (a .kept) (a .n) (now (a .words)) rooms (a .at) (rw (c .before .r .given .1) at (c .before .before .before .read .ensures rooms)), tt)
 
 pub read-flag-spec : {M : Type 1} → statement M
 read-flag-spec =

@@ -21,18 +21,18 @@ returns c =
     let stored = plain (λ s e. putAt t (a .k) (range s e)) (s .0 .0) (e .0 .0) (record { sfits = fs }) (record { sfits = fe }) (c .before .put .ensures) in
     λ rooms.
     (λ j. ok (stored j) (e .0 .1 .0))
-    ∙ one-ok (a .k) t (now (a .words)) rooms (a .at) (rw (s .1) at (c .before .before .before .before .before .before .before .before .before .before .read .ensures rooms)) (rw (e .1) at (c .before .before .before .before .before .before .read2 .ensures rooms))
+    ∙ one-ok (a .«record») (a .k) t (now (a .words)) rooms (a .at) (rw (s .1) at (c .before .before .before .before .before .before .before .before .before .before .read .ensures rooms)) (rw (e .1) at (c .before .before .before .before .before .before .read2 .ensures rooms))
 
 returns-2 : tie.Need-returns-2
 returns-2 c =
     let a = c .before .before .before .before .before .before .before .before .args in
     let s = c .before .before .before .before .before .start .given in
-    λ rooms. one-half (a .k) (now (a .part)) (now (a .words)) rooms (a .at) (rw (s .1) at (c .before .before .before .before .before .before .before .read .ensures rooms)) (rw (c .before .r .given .1) at (c .before .before .before .read2 .ensures rooms))
+    λ rooms. one-half (a .«record») (a .k) (now (a .part)) (now (a .words)) rooms (a .at) (rw (s .1) at (c .before .before .before .before .before .before .before .read .ensures rooms)) (rw (c .before .r .given .1) at (c .before .before .before .read2 .ensures rooms))
 
 returns-3 : tie.Need-returns-3
 returns-3 c =
     let a = c .before .before .before .before .args in
-    λ rooms. one-no (a .k) (now (a .part)) (now (a .words)) rooms (a .at) (rw (c .before .r2 .given .1) at (c .before .before .before .read .ensures rooms))
+    λ rooms. one-no (a .«record») (a .k) (now (a .part)) (now (a .words)) rooms (a .at) (rw (c .before .r2 .given .1) at (c .before .before .before .read .ensures rooms))
 
 pub deserialize-interval-spec : {M : Type 1} → statement M
 deserialize-interval-spec =

@@ -12,18 +12,18 @@ use Rattle.sets.proofs.merging.gather.Statement.{statement}
 use Rattle.sets.proofs.merging.gather.Tie as tie
 
 abbrev Inv-loop : tie.InvT-loop
-Inv-loop part₀ first n words start end at₀ i₀ part at i =
+Inv-loop part₀ «record» first n words start end at₀ i₀ part at i =
     (length part ≡ length part₀)
-    × ((rooms : Table → ℕ) → run (turns n first gatherOne part₀) words rooms start ≡ run (turns (end - i) i gatherOne part) words rooms at)
+    × ((rooms : Table → ℕ) → run (turns n first (gatherOne «record») part₀) words rooms start ≡ run (turns (end - i) i (gatherOne «record») part) words rooms at)
 
 abbrev μ-loop : tie.MeasureT-loop
-μ-loop part₀ first n words start end at₀ i₀ part at i = end - i
+μ-loop part₀ «record» first n words start end at₀ i₀ part at i = end - i
 
 loop-holds : tie.Need-loop-holds Inv-loop μ-loop
 loop-holds c =
     let a = c .args in
     let all : a .n ≡ a .n + a .first - a .first = omega arith in
-    (refl, λ rooms. ap (λ (k : ℕ). run (turns k (a .first) gatherOne (now (a .part))) (now (a .words)) rooms (a .start)) all)
+    (refl, λ rooms. ap (λ (k : ℕ). run (turns k (a .first) (gatherOne (a .«record»)) (now (a .part))) (now (a .words)) rooms (a .start)) all)
 
 same-length : tie.Need-same-length Inv-loop μ-loop
 same-length c = c .before .before .before .before .deserialize-interval .kept .0 ∙ c .before .before .before .before .before .before .before .loop .inv .0
@@ -34,7 +34,7 @@ returns c =
     let l = c .before .before .before .before .before .before .before .loop in
     λ rooms.
     sym (l .inv .1 rooms
-    ∙ turn-no gatherOne (now (a .words)) rooms (a .n + a .first) (l .i) (l .part) (l .at) (c .before .before .before .before .before .before .loop-test .taken) (rw (c .before .r .given .1) at (c .before .before .before .before .deserialize-interval .ensures rooms)))
+    ∙ turn-no (gatherOne (a .«record»)) (now (a .words)) rooms (a .n + a .first) (l .i) (l .part) (l .at) (c .before .before .before .before .before .before .loop-test .taken) (rw (c .before .r .given .1) at (c .before .before .before .before .deserialize-interval .ensures rooms)))
 
 loop-again : tie.Need-loop-again Inv-loop μ-loop
 loop-again c =
@@ -43,7 +43,7 @@ loop-again c =
       c .before .before .before .before .deserialize-interval .kept .0 ∙ l .inv .0,
       λ rooms.
           l .inv .1 rooms
-          ∙ turn-ok gatherOne (now (a .words)) rooms (a .n + a .first) (l .i) (l .part) (l .at) (c .before .before .before .before .before .before .loop-test .taken) (rw (c .before .next .given .1) at (c .before .before .before .before .deserialize-interval .ensures rooms)),
+          ∙ turn-ok (gatherOne (a .«record»)) (now (a .words)) rooms (a .n + a .first) (l .i) (l .part) (l .at) (c .before .before .before .before .before .before .loop-test .taken) (rw (c .before .next .given .1) at (c .before .before .before .before .deserialize-interval .ensures rooms)),
     )
 
 same-length-2 : tie.Need-same-length-2 Inv-loop μ-loop
@@ -53,7 +53,7 @@ returns-2 : tie.Need-returns-2 Inv-loop μ-loop
 returns-2 c =
     let a = c .before .before .args in
     let l = c .before .loop in
-    λ rooms. sym (l .inv .1 rooms ∙ turns-over gatherOne (now (a .words)) rooms (a .n + a .first) (l .i) (l .part) (l .at) (c .loop-test .left))
+    λ rooms. sym (l .inv .1 rooms ∙ turns-over (gatherOne (a .«record»)) (now (a .words)) rooms (a .n + a .first) (l .i) (l .part) (l .at) (c .loop-test .left))
 
 pub gather-spec : {M : Type 1} → statement M
 gather-spec =

@@ -18,7 +18,7 @@ returns c =
     let next = c .before .before .before .before .next .given in (
       λ rooms.
           (λ j. ok (part (e .1 j) (e .0 j)) (next .0 .0))
-          ∙ set-ok (a .flagged) (a .n) (begin .result) t (begin .last .0) (now (a .words)) rooms (a .at) (omega arith) (begin .ensures .0) (begin .ensures .1) (rw (next .1) at (c .before .before .before .before .before .before .before .gather .ensures rooms)),
+          ∙ set-ok (a .«record») (a .flagged) (a .n) (begin .result) t (begin .last .0) (now (a .words)) rooms (a .at) (omega arith) (begin .ensures .0) (begin .ensures .1) (rw (next .1) at (c .before .before .before .before .before .before .before .gather .ensures rooms)),
       omega (arith, e .0, begin .ensures .0, kept-few (c .before .before .before .before .before .before .before .gather .last .0) (a .n + begin .result)),
     )
 
@@ -26,7 +26,7 @@ returns-2 : tie.Need-returns-2
 returns-2 c =
     let a = c .before .before .before .before .before .before .before .before .before .args in
     let begin = c .before .before .before .before .before .before .before .begin-set in (
-      λ rooms. set-no (a .flagged) (a .n) (begin .result) (now (a .part)) (begin .last .0) (now (a .words)) rooms (a .at) (omega arith) (begin .ensures .0) (begin .ensures .1) (rw (c .before .r .given .1) at (c .before .before .before .before .gather .ensures rooms)),
+      λ rooms. set-no (a .«record») (a .flagged) (a .n) (begin .result) (now (a .part)) (begin .last .0) (now (a .words)) rooms (a .at) (omega arith) (begin .ensures .0) (begin .ensures .1) (rw (c .before .r .given .1) at (c .before .before .before .before .gather .ensures rooms)),
       tt,
     )
 

@@ -25,11 +25,11 @@ abbrev μ-loop : tie.MeasureT-loop
 μ-loop edges m s first last count left₀ low₀ next₀ before₀ left low next before = left
 
 -- an edge that stands is listed
-listed : (c : tie.Else1 Inv-loop μ-loop) → c .before .before .spot-of .result < c .before .before .before .before .before .args .m
+listed : (c : tie.Else1 Inv-loop μ-loop) → c .before .before .number-of .result < c .before .before .before .before .before .args .m
 listed c =
     let a = c .before .before .before .before .before .args in
     let l = c .before .before .before .before .loop in
-    stands-below (a .m) (sourceIn (now (a .edges))) (nextIn (now (a .edges))) (a .s) (a .last) (c .before .before .before .before .before .pre .1) (l .low) (c .before .before .spot-of .result) (sym (c .before .stands .ensures) ∙ not-false _ (c .if1 .left))
+    stands-below (a .m) (sourceIn (now (a .edges))) (nextIn (now (a .edges))) (a .s) (a .last) (c .before .before .before .before .before .pre .1) (l .low) (c .before .before .number-of .result) (sym (c .before .stands .ensures) ∙ not-false _ (c .if1 .left))
 
 returns : tie.Need-returns Inv-loop μ-loop
 returns c =
@@ -37,16 +37,16 @@ returns c =
     let a = s .args in
     let l = c .before .before .before .before .loop in
     sym ((rw (back32 (a .first) (s .fits .first .sfits), back32 (a .last) (s .fits .last .sfits)) at (l .inv))
-    ∙ climbs-off (a .m) (sourceIn (now (a .edges))) (nextIn (now (a .edges))) (a .s) (a .last) (s .pre .1) (l .left) (l .low) (toZ w32 (l .next)) (toZ w32 (l .before)) (omega (arith, c .before .before .before .loop-test .taken)) (c .before .before .spot-of .ensures) (sym (c .before .stands .ensures) ∙ not-true _ (c .if1 .taken)))
+    ∙ climbs-off (a .m) (sourceIn (now (a .edges))) (nextIn (now (a .edges))) (a .s) (a .last) (s .pre .1) (l .left) (l .low) (toZ w32 (l .next)) (toZ w32 (l .before)) (omega (arith, c .before .before .before .loop-test .taken)) (c .before .before .number-of .ensures) (sym (c .before .stands .ensures) ∙ not-true _ (c .if1 .taken)))
 
 loop-again : tie.Need-loop-again Inv-loop μ-loop
 loop-again c =
     let s = c .before .before .before .before .before .before in
     let a = s .args in
     let l = c .before .before .before .before .before .loop in
-    let j = c .before .before .before .spot-of .result in
+    let j = c .before .before .before .number-of .result in
     l .inv
-    ∙ climbs-on (a .m) (sourceIn (now (a .edges))) (nextIn (now (a .edges))) (a .s) (toZ w32 (ofZ w32 (a .last))) (s .pre .1) (l .left) (l .low) (toZ w32 (l .next)) (toZ w32 (l .before)) (omega (arith, c .before .before .before .before .loop-test .taken)) (c .before .before .before .spot-of .ensures) (sym (c .before .before .stands .ensures) ∙ not-false _ (c .before .if1 .left))
+    ∙ climbs-on (a .m) (sourceIn (now (a .edges))) (nextIn (now (a .edges))) (a .s) (toZ w32 (ofZ w32 (a .last))) (s .pre .1) (l .left) (l .low) (toZ w32 (l .next)) (toZ w32 (l .before)) (omega (arith, c .before .before .before .before .loop-test .taken)) (c .before .before .before .number-of .ensures) (sym (c .before .before .stands .ensures) ∙ not-false _ (c .before .if1 .left))
     ∙ ap (λ (z : ℤ). climbs (a .m) (sourceIn (now (a .edges))) (nextIn (now (a .edges))) (a .s) (toZ w32 (ofZ w32 (a .last))) (l .left - 1) (j + 1) z (toZ w32 (l .next))) (sym (back32 (getD (now (a .edges)) (8 * j + 7) (pos 0)) (c .next .given)))
 
 returns-2 : tie.Need-returns-2 Inv-loop μ-loop

@@ -1,9 +1,9 @@
--- `tables::spot_of` meets its contract: a word below 0 is `negsuc`, any other `pos`. Assumes nothing.
+-- `tables::number_of` meets its contract: a word below 0 is `negsuc`, any other `pos`. Assumes nothing.
 use mir.Syntax.{w32}
 use mir.ValLaws.{toZ-ofZ}
 use Rattle.tables.proofs.Signs.{no-number, fits, number}
-use Rattle.tables.proofs.spot_of.Statement.{statement}
-use Rattle.tables.proofs.spot_of.Tie as tie
+use Rattle.tables.proofs.number_of.Statement.{statement}
+use Rattle.tables.proofs.number_of.Tie as tie
 
 cast-result : tie.Need-cast-result
 cast-result c =
@@ -20,5 +20,5 @@ returns-2 c =
     let s = c .before in
     rw (toZ-ofZ w32 (s .args .z) (s .fits .z)) (number (s .args .z) (rw (toZ-ofZ w32 (s .args .z) (s .fits .z)) at (c .if1 .left)))
 
-pub spot-of-spec : {M : Type 1} → statement M
-spot-of-spec = tie.close (tie.spec cast-result returns returns-2)
+pub number-of-spec : {M : Type 1} → statement M
+number-of-spec = tie.close (tie.spec cast-result returns returns-2)
