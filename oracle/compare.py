@@ -9,8 +9,9 @@ Word lists (lists.py) go to the oracle. Its answer, put as document 01 puts it (
 where anything else comes out. Compared are the answer and every word of the nine lent tables. Exit status 1 where
 anything differs. Needs the oracle, `rt` and Python's standard library.
 
-The expected side is the Rust's own, but for two small families that the summary names: lack of room, which the
-Rust does not know, and a start at a later place, for which the Rust is asked about the words from there on.
+The expected side is the Rust's own, but for the record of a refusal, which a walk over the words gives, and for two
+small families that the summary names: lack of room, which the Rust does not know, and a start at a later place, for
+which the Rust is asked about the words from there on.
 """
 
 import argparse

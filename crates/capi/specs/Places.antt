@@ -1,4 +1,5 @@
--- A decode's answer is small: an acceptance's counts are no more than its room, and a refusal's place and record no more than the words and 4.
+-- A decode's answer is small: the words read are no more than the words, the other counts no more than the room, and a refusal's place and
+-- record no more than the words and 4.
 use mathlib.Core.Path.{_≡_, refl}
 use mathlib.Core.List.{List}
 use Prim.Native.Nat.{ℕ, _<_, _^_}

@@ -49,7 +49,7 @@ fn check_edge(
     }
 }
 
-// The i-th edge into its eight words. The answer is its source.
+// The edge with that number, into its eight words. The answer is its source.
 pub fn deserialize_edge(
     part: &mut [i32],
     record: usize,

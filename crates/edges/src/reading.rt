@@ -87,7 +87,7 @@ fn take_edge(record: usize, words: &[i32], at: usize) -> RawStep
     }
 }
 
-// The six words of the i-th edge.
+// The six words of the edge with that number.
 pub fn read_edge(record: usize, words: &[i32], at: usize) -> RawStep
     ensures says { λ r. ⌜ ((rooms : Table → ℕ) → outcomeRaw r ≡ run (sixWords «record») (now (words .entry)) rooms at) ⌝ }
     ensures sound { λ r. ⌜ Sound (at + 6) r ⌝ }

@@ -1,5 +1,6 @@
 -- Document 01, "Cases on each side": P1 to P11 and the whole case, as one table with a single proof; and a case for each of
--- "Shortcuts that read well and are wrong", which a definition by that shortcut would fail.
+-- "Shortcuts that read well and are wrong", which a definition by that shortcut would fail; and
+-- refusals of second records (document 02, R-2).
 use mathlib.Core.Path.{_≡_, refl}
 use mathlib.Core.List.{List, [], _∷_, _++_}
 use Prim.Native.Nat.{ℕ}
@@ -64,7 +65,7 @@ withSet set n kept ranges =
     ∷ (0 ▸ 0 ▸ 0 ▸ 0 ▸ [])
     ∷ [])
 
--- Two records and more in every table, and these words behind the header; refused at the second record.
+-- Room for three records in every table, and these words behind the header.
 abbrev second : List ℤ → Decoded → Case
 second ws d = denied (nine 24 24 6 6 9 3 3 9 12) (4 ▸ 0 ▸ 0 ▸ ws) d
 
@@ -243,7 +244,7 @@ cases =
     ∷ (0 ▸ 0 ▸ 0 ▸ 0 ▸ [])
     ∷ [])
     ∷
-    -- "refusals 1 to 12 carry it: state, rule, set, edge or action number"; a state whose type is unknown, and one that ends
+    -- "refusals 1 to 12 carry it: state, rule, set, edge or action number"; a state whose type is unknown, and one whose words end
     second (2 ▸ 1 ▸ 0 ▸ 13 ▸ []) (refused 6 5 1 6 13)
     ∷
     second (2 ▸ 1 ▸ 0 ▸ 12 ▸ 0 ▸ []) (refused 1 7 1 8 0)
@@ -258,6 +259,8 @@ cases =
     second (0 ▸ 0 ▸ 0 ▸ 0 ▸ 0 ▸ 0 ▸ 0 ▸ 2 ▸ 0 ▸ []) (refused 1 31 1 12 0)
     ∷
     second (0 ▸ 0 ▸ 0 ▸ 2 ▸ 0 ▸ 0 ▸ 0 ▸ []) (refused 1 15 1 10 0)
+    ∷
+    second (0 ▸ 0 ▸ 0 ▸ 2 ▸ 0 ▸ 0 ▸ none ∷ []) (D.Refused (refusal 2 (spot 14 1) 9 none))
     ∷
     -- "Fields 19 to 22 carry their set": its count, its flag, its room, the stop of its first interval, the start of its third
     second (0 ▸ 0 ▸ 0 ▸ 0 ▸ 0 ▸ 2 ▸ 0 ▸ 0 ▸ []) (refused 1 19 1 11 0)

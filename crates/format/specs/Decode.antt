@@ -10,7 +10,8 @@ use Rattle.format.specs.Tables.{room, table, zeros, countsOf}
 use Rattle.format.specs.declared.Decoded.{Decoded}
 use Rattle.format.specs.declared.Decoded.the-variants as D
 
--- "derived edges after the last edge, all at once (field 23, place of the next word, value all edges)"
+-- "derived edges after the last edge, all at once (field 23, place of the next word, value all edges)";
+-- "the derived-edge refusal carry 0" (document 02, R-2)
 unfoldable pub returning : List State → ℕ → List Edge → Prog (List Edge)
 returning ss n es = here (λ p. need Edges (length es + length (derived ss n es)) (spot 23 0) p (done es))
 

@@ -17,7 +17,7 @@ pub data Outcome (A : Type 0) : Type 0 where
   ok : A → ℕ → Outcome A
   no : Refusal → Outcome A
 
--- "Each word read shall know the number of the record it belongs to": the word of field f in the record with the number i.
+-- "Each word read shall know the number of the record it belongs to" (document 02, R-2): the word of field f in the record with the number i.
 abbrev pub spot : ℕ → ℕ → Spot
 spot f i = record { field = f; «record» = i }
 

@@ -74,7 +74,7 @@ abbrev pub among : ℕ → List ℕ → Bool
 among k [] = false
 among k (n ∷ l) = eqb k n || among k l
 
--- ---- fields 1 to 3
+-- ---- fields 1 to 3: "the header .. carry 0" (document 02, R-2)
 
 -- "3: version not 4"
 unfoldable pub version : Prog ℤ
@@ -142,7 +142,7 @@ modes = count Modes 16 >>= (λ n. times n 0 (λ i. index (spot 17 i)))
 
 -- ---- fields 18 to 22: sets
 
--- "Fields 19 to 22 carry their set": i.
+-- "Fields 19 to 22 carry their set" (document 02, R-2): i.
 unfoldable pub interval : ℕ → Prog Range
 interval i = do
   s ← get (spot 21 i)

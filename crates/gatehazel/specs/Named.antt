@@ -1,6 +1,7 @@
--- Document 02, R-2, of `decode` itself: why it refuses, where, and which record it names (laws, Refusals).
+-- Document 02, R-2, of `decode` itself, and of `decode_from`: why it refuses, where, and which record it names (laws, Refusals).
 use mathlib.Core.Path.{sym}
 use mathlib.Core.List.{List}
+use Prim.Native.Nat.{ℕ}
 use lib.IntN.{ℤ}
 use Rattle.format.specs.Tables.{room}
 use Rattle.format.specs.declared.Refusal.{Refusal}
@@ -11,5 +12,5 @@ use Rattle.inplace.specs.Whole.{Tables}
 use Rattle.serialized.specs.Rooms.{lengths}
 use Rattle.serialized.specs.Answered.{Decodes}
 
-pub refusal-names : {t : Tables} {ws : List ℤ} {q : Refusal} {u : Tables} → Decodes t ws 0 (D.Refused q) u → Refused ws (room (lengths t)) q
-refusal-names {t} {ws} {q} a = refused-so ws (room (lengths t)) 0 q (refusing (lengths t) ws 0 q (sym (a .told)))
+pub refusal-names : {t : Tables} {ws : List ℤ} {at : ℕ} {q : Refusal} {u : Tables} → Decodes t ws at (D.Refused q) u → Refused ws (room (lengths t)) at q
+refusal-names {t} {ws} {at} {q} a = refused-so ws (room (lengths t)) at q (refusing (lengths t) ws at q (sym (a .told)))

@@ -1,11 +1,13 @@
 -- Document 02, R-2: the lists of records that a decode reads. "state, rule, set, edge or action number, for fields 10, 12, 17 and 31 the
 -- place in their list, all from 0. Fields 19 to 22 carry their set."
+use mathlib.Core.Path.{_≡_}
 use mathlib.Core.List.{List, [], _∷_}
 use Prim.Native.Nat.{ℕ}
+use lib.IntN.{ℤ}
 use lib.ListN.{length}
-use Rattle.format.specs.Reading.{States, Edges, Sets, Rules, Modes, Decisions, Actions, Prog, times, spot, index, count}
+use Rattle.format.specs.Reading.{Table, States, Edges, Sets, Rules, Modes, Decisions, Actions, ok, Prog, run, times, spot, get, index, count}
 use Rattle.format.specs.Sets.{Range}
-use Rattle.format.specs.Sections.{State, Rule, Edge, Action, state, named, rule, set, setsFrom, edge, action}
+use Rattle.format.specs.Sections.{State, Rule, Edge, Action, version, grammar, state, states, named, flags, rule, rules, modes, set, setsFrom, sets, edge, edges, decisions, action}
 use Rattle.format.specs.Links.{flat}
 
 -- The two lists of flagged states name some of n states; an edge has its source among n states, and its set among m sets.
@@ -67,12 +69,24 @@ next an-action i l = action i
 
 -- So many of them, from the first.
 abbrev pub first : (k : Kind) → ℕ → Prog (List (Of k))
-first a-state n = times n 0 (λ i. state i)
+first a-state n = times n 0 state
 first (a-non-greedy m) n = times n 0 (λ i. named m (spot 10 i))
 first (a-precedence m) n = times n 0 (λ i. named m (spot 12 i))
-first a-rule n = times n 0 (λ i. rule i)
+first a-rule n = times n 0 rule
 first a-mode n = times n 0 (λ i. index (spot 17 i))
 first a-set n = setsFrom n 0 0
-first (an-edge m k) n = times n 0 (λ i. edge m k i)
+first (an-edge m k) n = times n 0 (edge m k)
 first a-decision n = times n 0 (λ i. index (spot 31 i))
-first an-action n = times n 0 (λ i. action i)
+first an-action n = times n 0 action
+
+-- A decode from the place `from` came to the list of this kind, whose count stands at this place, with so many states and sets read.
+pub data Came (ws : List ℤ) (room : Table → ℕ) (from : ℕ) : ℕ → ℕ → Kind → ℕ → Type 0 where
+  to-states : {v g t : ℤ} {a b c : ℕ} → run version ws room from ≡ ok v a → run grammar ws room a ≡ ok g b → run (get (spot 3 0)) ws room b ≡ ok t c → Came ws room from 0 0 a-state c
+  to-non-greedy : {a b : ℕ} {l : List State} → Came ws room from 0 0 a-state a → run states ws room a ≡ ok l b → Came ws room from (length l) 0 (a-non-greedy (length l)) b
+  to-precedence : {n a b : ℕ} {l : List ℕ} → Came ws room from n 0 (a-non-greedy n) a → run (flags n 9) ws room a ≡ ok l b → Came ws room from n 0 (a-precedence n) b
+  to-rules : {n a b : ℕ} {l : List ℕ} → Came ws room from n 0 (a-precedence n) a → run (flags n 11) ws room a ≡ ok l b → Came ws room from n 0 a-rule b
+  to-modes : {n a b : ℕ} {l : List Rule} → Came ws room from n 0 a-rule a → run rules ws room a ≡ ok l b → Came ws room from n 0 a-mode b
+  to-sets : {n a b : ℕ} {l : List ℕ} → Came ws room from n 0 a-mode a → run modes ws room a ≡ ok l b → Came ws room from n 0 a-set b
+  to-edges : {n a b : ℕ} {l : List (List Range)} → Came ws room from n 0 a-set a → run sets ws room a ≡ ok l b → Came ws room from n (length l) (an-edge n (length l)) b
+  to-decisions : {n m a b : ℕ} {l : List Edge} → Came ws room from n m (an-edge n m) a → run (edges n m) ws room a ≡ ok l b → Came ws room from n m a-decision b
+  to-actions : {n m a b : ℕ} {l : List ℕ} → Came ws room from n m a-decision a → run decisions ws room a ≡ ok l b → Came ws room from n m an-action b

@@ -1,5 +1,5 @@
--- How every refusal of a run is told: why; where, which is no farther than four behind the last word; and, of a record's program, the
--- record whose word was refused. One walk over the programs shows it all; Refusals has the whole decode.
+-- How every refusal of a run is told: why; where, which is no farther than four behind the words' end; and, of a record's program, the
+-- record whose word was refused. One walk over the programs shows it; Refusals has the whole decode.
 use mathlib.Core.Path.{_≡_, refl, sym, _∙_, subst}
 use mathlib.Core.List.{List, [], _∷_}
 use mathlib.Core.Bool.{Bool, true, false, _&&_}
@@ -19,13 +19,13 @@ use Rattle.laws.specs.Reading.{clash, within}
 use Rattle.laws.specs.Running.{ok-then, no-then}
 
 -- a refusal that a program gives by itself has one of the numbers 2 to 11
-pub record Named (r : Refusal) : Type 0 where
+pub record OfWord (r : Refusal) : Type 0 where
   pub low : 2 ≤ r .number
   pub high : r .number ≤ 11
 
 -- 1 only where the words end, at the slice's length; 12 only where room lacks; else one of 2 to 11
 pub data Why (ws : List ℤ) (room : Table → ℕ) (r : Refusal) : Type 0 where
-  by-word : Named r → Why ws room r
+  by-word : OfWord r → Why ws room r
   by-end : (f : Spot) → r ≡ ended f (length ws) → Why ws room r
   by-room : (t : Table) (n : ℕ) (f : Spot) (p : ℕ) → room t < n → r ≡ noRoom f p n → Why ws room r
 
@@ -41,14 +41,10 @@ module _ (ws : List ℤ) (room : Table → ℕ) where
   unfoldable pub Refuses : {A : Type 0} → (Refusal → Type 0) → Prog A → Type 0
   Refuses P p = (at : ℕ) (r : Refusal) → at ≤ length ws → run p ws room at ≡ no r → P r
 
-  pub weaker : {A : Type 0} (P Q : Refusal → Type 0) → ((r : Refusal) → P r → Q r) → (p : Prog A) → Refuses P p → Refuses Q p
-  unfolding Refuses
-  weaker P Q f p s at r h e = f r (s at r h e)
-
   -- ---- how programs are put together
 
   module _ (P : Refusal → Type 0) where
-    pub ends : {A : Type 0} (a : A) → Refuses P (done a)
+    ends : {A : Type 0} (a : A) → Refuses P (done a)
     unfolding Refuses run
     ends a at r h e = clash e
 
@@ -81,21 +77,16 @@ module _ (ws : List ℤ) (room : Table → ℕ) where
     from-here k s at r h e = s at h at r h e
 
     -- the first of two, or the second behind what the first gave
-    pub then-from : {A B : Type 0} (p : Prog A) (k : A → Prog B) → Refuses P p
-        → ((at : ℕ) (a : A) (n : ℕ) (r : Refusal) → run p ws room at ≡ ok a n → n ≤ length ws → run (k a) ws room n ≡ no r → P r) → Refuses P (p >>= k)
+    then : {A B : Type 0} (p : Prog A) (k : A → Prog B) → Refuses P p → ((a : A) → Refuses P (k a)) → Refuses P (p >>= k)
     unfolding Refuses
-    then-from {A} {B} p k s g at r h e = go (run p ws room at) refl
+    then {A} {B} p k s g at r h e = go (run p ws room at) refl
       where
         go : (o : Outcome A) → run p ws room at ≡ o → P r
-        go (ok a n) q = g at a n r q (within p ws room at h q) (sym (ok-then p k ws room at (sym q)) ∙ e)
+        go (ok a n) q = g a n r (within p ws room at h q) (sym (ok-then p k ws room at (sym q)) ∙ e)
         go (no x) q =
             let f : _≡_ {A = Outcome B} (no x) (no r) = sym (no-then p k ws room at (sym q)) ∙ e in
             let z : x ≡ r = cc in
             subst P z (s at x h q)
-
-    pub then : {A B : Type 0} (p : Prog A) (k : A → Prog B) → Refuses P p → ((a : A) → Refuses P (k a)) → Refuses P (p >>= k)
-    unfolding Refuses
-    then p k s g = then-from p k s (λ at a n r q h e. g a n r h e)
 
     repeats : {A : Type 0} (n i : ℕ) (p : ℕ → Prog A) → ((j : ℕ) → Refuses P (p j)) → Refuses P (times n i p)
     unfolding times

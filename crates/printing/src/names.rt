@@ -94,7 +94,7 @@ fn listed(fd: i32, name: &[u8], record: usize) {
     onto::text(fd, b" list");
 }
 
-// Which record a word of this field belongs to (document 02, R-2). The header, the counts and the derived edges belong to none, and of them
+// Which record a word of this field belongs to (document 02, R-2). The header, the other counts and the derived edges belong to none, and of them
 // nothing is said.
 pub fn owner(fd: i32, field: u32, record: usize) {
     match field {

@@ -28,7 +28,7 @@ fn read_named(words: &[i32], at: usize, n: usize, spot: Spot) -> Index
     }
 }
 
-// The list's state at that spot is named, and flagged.
+// The state that the word of this spot names gets the flag.
 fn flag_one(states: &mut [i32], n: usize, bit: usize, words: &[i32], at: usize, spot: Spot) -> Step
     requires { ⌜ (8 * n ≤ length (now states)) × (bit < 2 ^ 31) ⌝ }
     ensures { λ r. ⌜ ((rooms : Table → ℕ) → told r (now (states .exit)) ≡ run (spec.flagOne bit n (spot .field) (spot .record) (now (states .entry))) (now (words .entry)) rooms at) ⌝ }

@@ -60,7 +60,7 @@ fn deserialize_number(part: &mut [i32], words: &[i32], at: usize, spot: Spot) ->
     }
 }
 
-// The i-th record.
+// The record with that number.
 pub fn deserialize_record(
     which: Section,
     part: &mut [i32],

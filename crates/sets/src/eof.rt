@@ -38,7 +38,7 @@ fn no_room(spot: Spot, place: usize, needed: usize) -> Refusal
     }
 }
 
-// The flag of the i-th set, of n intervals, behind `kept` ranges.
+// The flag of the set with that number, of n intervals, behind `kept` ranges.
 pub fn read_flag(
     record: usize,
     words: &[i32],

@@ -16,7 +16,7 @@ use words::Index;
 use words::Step;
 use words::Word;
 
-// Fields 21 and 22: one interval of the set, into the k-th record. Its words tell the set's number, not the interval's.
+// Fields 21 and 22: one interval, into the k-th range of the part. Its words belong to the set with the number `record`.
 fn deserialize_interval(part: &mut [i32], record: usize, k: usize, words: &[i32], at: usize) -> Step
     requires { ⌜ 2 * k + 2 ≤ length (now part) ⌝ }
     ensures { λ r. ⌜ ((rooms : Table → ℕ) → told r (now (part .exit)) ≡ run (spec.gatherOne «record» k (now (part .entry))) (now (words .entry)) rooms at) ⌝ }
