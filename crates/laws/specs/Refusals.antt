@@ -18,9 +18,8 @@ use Rattle.laws.specs.Demand3.{begins-not}
 use Rattle.laws.specs.Kinds.{Kind, a-decision, fieldsOf, outside, countOf, next, first, Came, to-states, to-non-greedy, to-precedence, to-rules, to-modes, to-sets, to-edges, to-decisions, to-actions}
 use Rattle.laws.specs.Order.{order}
 use Rattle.laws.specs.Reading.{clash, within}
-use Rattle.laws.specs.Running.{ok-then, no-then}
 use Rattle.laws.specs.Turns.{Turn, lists}
-use Rattle.laws.specs.Walk.{Why, by-word, by-end, by-room, Told, Refuses, get-told, version-told, grammar-told, counts-told, returning-told, record-told}
+use Rattle.laws.specs.Walk.{Why, by-word, by-end, by-room, Told, Split, in-first, in-second, split, Refuses, get-told, version-told, grammar-told, counts-told, returning-told, record-told}
 
 -- A record is refused, at one of the fields of its kind: the decode came to the list's count at the place start, and the list begins at the
 -- place at.
@@ -52,16 +51,12 @@ module _ (ws : List ℤ) (room : Table → ℕ) (from : ℕ) where
   abbrev Fair : {A : Type 0} → Prog A → ℕ → Type 0
   Fair p at = (r : Refusal) → run p ws room at ≡ no r → Refused ws room from r
 
-  -- the first of two, or the second behind what the first gave
   on : {A B : Type 0} (p : Prog A) (k : A → Prog B) (at : ℕ) → at ≤ length ws → Fair p at → ((a : A) (n : ℕ) → run p ws room at ≡ ok a n → n ≤ length ws → Fair (k a) n) → Fair (p >>= k) at
-  on {A} {B} p k at h s g r e = go (run p ws room at) refl
+  on {A} {B} p k at h s g r e = go (split p k ws room at r e)
     where
-      go : (o : Outcome A) → run p ws room at ≡ o → Refused ws room from r
-      go (ok a n) q = g a n q (within p ws room at h q) r (sym (ok-then p k ws room at (sym q)) ∙ e)
-      go (no x) q =
-          let f : _≡_ {A = Outcome B} (no x) (no r) = sym (no-then p k ws room at (sym q)) ∙ e in
-          let z : x ≡ r = cc in
-          subst (Refused ws room from) z (s x q)
+      go : Split p k ws room at r → Refused ws room from r
+      go (in-first q) = s r q
+      go (in-second a n q f) = g a n q (within p ws room at h q) r f
 
   plain : {A : Type 0} (p : Prog A) → Refuses ws room (Told ws room outside 0) p → (at : ℕ) → at ≤ length ws → Fair p at
   unfolding Refuses

@@ -16,6 +16,7 @@ use Rattle.laws.specs.Kinds.{Kind, a-state, a-non-greedy, a-precedence, 
 use Rattle.laws.specs.Reading.{clash, forward, word-ok, word-no}
 use Rattle.laws.specs.Order.{order}
 use Rattle.laws.specs.Running.{ok-then, no-then}
+use Rattle.laws.specs.Walk.{Split, in-first, in-second, split}
 
 -- ---- a list that is refused: one of its records is, behind those that were read
 
@@ -43,7 +44,7 @@ module _ {A S : Type 0} (p : ℕ → S → Prog A) (f : S → A → S) (q : ℕ 
   pub turn-of : (n i : ℕ) (s : S) (at : ℕ) (r : Refusal) → run (q n i s) ws room at ≡ no r → (k : ℕ) × Turn (λ k. q k i s) (λ k l. p (i + k) (moved f s l)) ws room at n k r
   unfolding run
   turn-of zero i s at r e = clash (sym (ap (λ (x : Prog (List A)). run x ws room at) (loop .none i s)) ∙ e)
-  turn-of (suc n) i s at r e = go (run (p i s) ws room at) refl (turn-of n (i + 1))
+  turn-of (suc n) i s at r e = go (split (p i s) (rest n i s) ws room at r whole) (turn-of n (i + 1))
     where
       whole : run (p i s >>= rest n i s) ws room at ≡ no r
       whole = sym (ap (λ (x : Prog (List A)). run x ws room at) (loop .more n i s)) ∙ e
@@ -62,20 +63,18 @@ module _ {A S : Type 0} (p : ℕ → S → Prog A) (f : S → A → S) (q : ℕ 
             refused = let z : i + suc k ≡ i + 1 + k = omega arith in ap (λ (j : ℕ). run (p j (moved f (f s a) (t .before))) ws room (t .place)) z ∙ t .refused;
           }
 
-      behind : (o : Outcome (List A)) (a : A) (m : ℕ) → run (q n (i + 1) (f s a)) ws room m ≡ o → run (rest n i s a) ws room m ≡ no r → run (q n (i + 1) (f s a)) ws room m ≡ no r
-      behind (ok l k) a m x y = clash (sym (ok-then (q n (i + 1) (f s a)) (λ l. done (a ∷ l)) ws room m (sym x)) ∙ y)
-      behind (no z) a m x y = x ∙ sym (no-then (q n (i + 1) (f s a)) (λ l. done (a ∷ l)) ws room m (sym x)) ∙ y
+      behind : (a : A) (m : ℕ) → Split (q n (i + 1) (f s a)) (λ l. done (a ∷ l)) ws room m r → run (q n (i + 1) (f s a)) ws room m ≡ no r
+      behind a m (in-first x) = x
+      behind a m (in-second l k x y) = clash y
 
-      go : (o : Outcome A) → run (p i s) ws room at ≡ o → ((s : S) (at : ℕ) (r : Refusal) → run (q n (i + 1) s) ws room at ≡ no r → (k : ℕ) × Turn (λ k. q k (i + 1) s) (λ k l. p (i + 1 + k) (moved f s l)) ws room at n k r)
+      go : Split (p i s) (rest n i s) ws room at r → ((s : S) (at : ℕ) (r : Refusal) → run (q n (i + 1) s) ws room at ≡ no r → (k : ℕ) × Turn (λ k. q k (i + 1) s) (λ k l. p (i + 1 + k) (moved f s l)) ws room at n k r)
           → (k : ℕ) × Turn (λ k. q k i s) (λ k l. p (i + k) (moved f s l)) ws room at (suc n) k r
-      go (ok a m) x ih =
-          let t = ih (f s a) m r (behind (run (q n (i + 1) (f s a)) ws room m) a m refl (sym (ok-then (p i s) (rest n i s) ws room at (sym x)) ∙ whole)) in
+      go (in-second a m x y) ih =
+          let t = ih (f s a) m r (behind a m (split (q n (i + 1) (f s a)) (λ l. done (a ∷ l)) ws room m r y)) in
           (suc (t .0), later a m x (t .0) (t .1))
-      go (no x) y ih =
-          let g : _≡_ {A = Outcome (List A)} (no x) (no r) = sym (no-then (p i s) (rest n i s) ws room at (sym y)) ∙ whole in
-          let z : x ≡ r = cc in
+      go (in-first x) ih =
           let j : i + 0 ≡ i = omega arith in
-          (0, record { below = omega arith; before = []; place = at; read = ap (λ (u : Prog (List A)). run u ws room at) (loop .none i s); refused = ap (λ (u : ℕ). run (p u s) ws room at) j ∙ y ∙ ap no z })
+          (0, record { below = omega arith; before = []; place = at; read = ap (λ (u : Prog (List A)). run u ws room at) (loop .none i s); refused = ap (λ (u : ℕ). run (p u s) ws room at) j ∙ x })
 
   -- where every turn reads a word, k turns read k words
   pub read-far : ((i : ℕ) (s : S) (at : ℕ) (a : A) (n : ℕ) → run (p i s) ws room at ≡ ok a n → at < n) → (k i : ℕ) (s : S) (at : ℕ) (l : List A) (m : ℕ) → run (q k i s) ws room at ≡ ok l m → at + k ≤ m

@@ -1,6 +1,6 @@
 -- How every refusal of a run is told: why; where, which is no farther than four behind the words' end; and, of a record's program, the
 -- record whose word was refused. One walk over the programs shows it; Refusals has the whole decode.
-use mathlib.Core.Path.{_≡_, refl, sym, _∙_, subst}
+use mathlib.Core.Path.{_≡_, refl, sym, ap, _∙_, subst}
 use mathlib.Core.List.{List, [], _∷_}
 use mathlib.Core.Bool.{Bool, true, false, _&&_}
 use Prim.Native.Nat.{ℕ, zero, suc, _+_, _≤_, _<_}
@@ -35,6 +35,21 @@ pub record Told (ws : List ℤ) (room : Table → ℕ) (fields : List ℕ) (i : 
   pub near : r .place ≤ length ws + 4
   pub field : among (r .field) fields ≡ true
   pub whose : r .«record» ≡ i
+
+-- two programs whose run is refused: the first is, or the second, behind what the first gave
+pub data Split {A B : Type 0} (p : Prog A) (k : A → Prog B) (ws : List ℤ) (room : Table → ℕ) (at : ℕ) (r : Refusal) : Type 0 where
+  in-first : run p ws room at ≡ no r → Split p k ws room at r
+  in-second : (a : A) (n : ℕ) → run p ws room at ≡ ok a n → run (k a) ws room n ≡ no r → Split p k ws room at r
+
+pub split : {A B : Type 0} (p : Prog A) (k : A → Prog B) (ws : List ℤ) (room : Table → ℕ) (at : ℕ) (r : Refusal) → run (p >>= k) ws room at ≡ no r → Split p k ws room at r
+split {A} {B} p k ws room at r e = go (run p ws room at) refl
+  where
+    go : (o : Outcome A) → run p ws room at ≡ o → Split p k ws room at r
+    go (ok a n) q = in-second a n q (sym (ok-then p k ws room at (sym q)) ∙ e)
+    go (no x) q =
+        let f : _≡_ {A = Outcome B} (no x) (no r) = sym (no-then p k ws room at (sym q)) ∙ e in
+        let z : x ≡ r = cc in
+        in-first (q ∙ ap no z)
 
 module _ (ws : List ℤ) (room : Table → ℕ) where
   -- Whatever refuses a run of the program has P.
@@ -76,17 +91,13 @@ module _ (ws : List ℤ) (room : Table → ℕ) where
     unfolding Refuses run
     from-here k s at r h e = s at h at r h e
 
-    -- the first of two, or the second behind what the first gave
     then : {A B : Type 0} (p : Prog A) (k : A → Prog B) → Refuses P p → ((a : A) → Refuses P (k a)) → Refuses P (p >>= k)
     unfolding Refuses
-    then {A} {B} p k s g at r h e = go (run p ws room at) refl
+    then {A} {B} p k s g at r h e = go (split p k ws room at r e)
       where
-        go : (o : Outcome A) → run p ws room at ≡ o → P r
-        go (ok a n) q = g a n r (within p ws room at h q) (sym (ok-then p k ws room at (sym q)) ∙ e)
-        go (no x) q =
-            let f : _≡_ {A = Outcome B} (no x) (no r) = sym (no-then p k ws room at (sym q)) ∙ e in
-            let z : x ≡ r = cc in
-            subst P z (s at x h q)
+        go : Split p k ws room at r → P r
+        go (in-first q) = s at r h q
+        go (in-second a n q f) = g a n r (within p ws room at h q) f
 
     repeats : {A : Type 0} (n i : ℕ) (p : ℕ → Prog A) → ((j : ℕ) → Refuses P (p j)) → Refuses P (times n i p)
     unfolding times
