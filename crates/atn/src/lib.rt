@@ -1,5 +1,7 @@
 // From the Rust's atn/mod.rs: the tail calls (document 01, "Return edges, precedence, tail calls").
 
+#![tactic(auto)]
+
 ghost use Rattle.std.specs.Prelude.{◌≡◌, ◌*◌, ◌≤◌, ◌<◌, length};
 ghost use Rattle.format.specs.Links.{tail};
 ghost use Rattle.format.specs.Tables.{zeros};

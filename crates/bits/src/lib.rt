@@ -1,5 +1,7 @@
 // The flags of a state's record (document 01, "Flags: 1 non-greedy, 2 left-recursive, 4 precedence decision"): one more of them.
 
+#![tactic(auto)]
+
 ghost use Rattle.std.specs.Prelude.{◌≡◌, ◌+◌, ◌*◌, ◌<◌, ◌^◌, length};
 ghost use Rattle.inplace.specs.Rows.{with_bit, flag_at};
 

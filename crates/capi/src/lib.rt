@@ -1,6 +1,8 @@
 // The C interface for firmware: include/gatehazel.h. Each function asks one question of document 01 or 02 and hands its answer over as the
 // number and the values that `format`'s Answers set out for it.
 
+#![tactic(auto)]
+
 mod handing;
 
 ghost use Rattle.std.specs.Prelude.{◌≡◌, [], length};

@@ -1,6 +1,8 @@
 // Document 01, fields 23 to 29: the edges are read, tested, laid into their table and chained.
 // From the Rust's atn/serialized.rs: the first half of `deserialize_edges`.
 
+#![tactic(auto)]
+
 ghost use Rattle.std.specs.Prelude.{◌≡◌, ℕ, ◌*◌, ◌≤◌, length};
 ghost use Rattle.format.specs.Reading.{Table, Edges};
 ghost use Rattle.inplace.specs.Held.{held, onward};

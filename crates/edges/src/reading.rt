@@ -9,7 +9,7 @@ use format::{Refusal, Spot};
 use words::{Index, Sign};
 
 // The six words of an edge as they were read: word 24, word 25, the type and the arguments.
-#[derive(Drop)]
+#[derive(Clone, Copy)]
 pub struct RawEdge {
     pub source: usize,
     pub target: usize,
@@ -20,7 +20,7 @@ pub struct RawEdge {
 }
 
 // Six words and the place of the next, or why not.
-#[derive(Drop)]
+#[derive(Clone, Copy)]
 pub enum RawStep {
     Got(RawEdge, usize),
     Refused(Refusal),

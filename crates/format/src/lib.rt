@@ -1,6 +1,8 @@
 // The types of document 01's answers, its table of the thirteen state types, and the places of a record's words (state, edge, range, set,
 // rule, name for modes and decisions, action). The definitions are in specs/.
 
+#![tactic(auto)]
+
 pub mod action;
 pub mod edge;
 pub mod name;
@@ -13,14 +15,14 @@ ghost use Rattle.std.specs.Prelude.{◌≡◌, get_or};
 ghost use Rattle.format.specs.Sections.{follows};
 
 // What a word belongs to: its field, and the number of its record, from 0 (document 02, R-2).
-#[derive(Drop)]
+#[derive(Clone, Copy)]
 pub struct Spot {
     pub field: u32,
     pub record: usize,
 }
 
 // Why a decode or a writing was refused: its number, field, record number, place and value.
-#[derive(Drop)]
+#[derive(Clone, Copy)]
 pub struct Refusal {
     pub number: u32,
     pub field: u32,
@@ -30,7 +32,7 @@ pub struct Refusal {
 }
 
 // Words read, max token type, and records in each table, with derived edges also on their own.
-#[derive(Drop)]
+#[derive(Clone, Copy)]
 pub struct Counts {
     pub words: usize,
     pub token: i32,
@@ -46,42 +48,42 @@ pub struct Counts {
 }
 
 // Either an acceptance holding its counts or a refusal holding its number, field, record number, place and value.
-#[derive(Drop)]
+#[derive(Clone, Copy)]
 pub enum Decoded {
     Accepted(Counts),
     Refused(Refusal),
 }
 
 // The number of words that were written, or why none were (document 02, R-1).
-#[derive(Drop)]
+#[derive(Clone, Copy)]
 pub enum Written {
     Wrote(usize),
     Refused(Refusal),
 }
 
 // Why a question was refused: a question's refusal holds number and value.
-#[derive(Drop)]
+#[derive(Clone, Copy)]
 pub struct Denial {
     pub number: u32,
     pub value: i64,
 }
 
 // The number of a state's n-th edge.
-#[derive(Drop)]
+#[derive(Clone, Copy)]
 pub enum NthEdge {
     Edge(i32),
     Denied(Denial),
 }
 
 // Whether an edge matches a symbol.
-#[derive(Drop)]
+#[derive(Clone, Copy)]
 pub enum Matching {
     Matches(bool),
     Denied(Denial),
 }
 
 // A set's ranges as a part of the lent table: the part's first word, and its length in words.
-#[derive(Drop)]
+#[derive(Clone, Copy)]
 pub enum SetPart {
     Part(usize, usize),
     Denied(Denial),

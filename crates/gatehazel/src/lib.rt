@@ -2,6 +2,8 @@
 // about them, and the tables turned back into words (document 02, R-1).
 // `decode` takes the words from the first on; `reader` begins at a place of the caller's choice.
 
+#![tactic(auto)]
+
 pub mod reader;
 
 ghost use Rattle.inplace.specs.Whole.{tables};

@@ -7,7 +7,7 @@ ghost use Rattle.serialized.specs.Answered.{Decodes};
 use format::Decoded;
 
 // The lent words, and the place of the next one to be read.
-#[derive(Drop)]
+#[derive(Clone, Copy)]
 pub struct WordReader<'a> {
     pub words: &'a [i32],
     pub at: usize,

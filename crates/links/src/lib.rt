@@ -1,6 +1,8 @@
 // Edges as chains (document 01, "A state's edges are chained ..") and what follows from them ("Return edges, precedence, tail calls").
 // From the Rust's atn/serialized.rs: the second half of `deserialize_edges`, and `mark_precedence_decisions`; `add_transition` of atn/mod.rs.
 
+#![tactic(auto)]
+
 ghost use Rattle.std.specs.Prelude.{◌≡◌, List, ℕ, ◌+◌, ◌*◌, ◌<◌, ◌≤◌, ◌^◌, ℤ, length};
 ghost use Rattle.format.specs.Reading.{Table, Edges};
 ghost use Rattle.inplace.specs.Held.{held, onward};

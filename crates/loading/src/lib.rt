@@ -1,5 +1,7 @@
 // The bytes of a dialect file as words: a file holds little-endian 32-bit words, and nothing else.
 
+#![tactic(auto)]
+
 ghost use Rattle.std.specs.Prelude.{◌≡◌, ◌+◌, ◌*◌, ◌/◌, ◌≤◌, min, length};
 ghost use Rattle.loading.specs.Bytes.{unsigned_of, signed_of, word_at, filled};
 

@@ -1,6 +1,8 @@
 // What the programs write, piece by piece: here on standard output, in `onto` on any file descriptor; `names` and `refusals` have the words
 // for the numbers of documents 01 and 02. Nothing can be said of what a program writes; a number's size can.
 
+#![tactic(auto)]
+
 pub mod names;
 pub mod onto;
 pub mod refusals;

@@ -1,6 +1,8 @@
 // The questions about lent tables: document 01, "Questions", at the end of "Refusal numbers". The tables may be any words, and
 // the counts any numbers; nothing is written. (The fourth, lookup in a lent list of ranges, is `ranges::contains`.)
 
+#![tactic(auto)]
+
 mod chain;
 mod denials;
 mod matching;

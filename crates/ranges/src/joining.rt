@@ -10,7 +10,7 @@ ghost use Rattle.ranges.specs.Joining.{meets, End, Joins};
 use ordering::order;
 
 // How many ranges are left, and whether no interval started below the range before it.
-#[derive(Drop)]
+#[derive(Clone, Copy)]
 pub struct Joined {
     pub count: usize,
     pub rising: bool,

@@ -2,6 +2,8 @@
 // From the Rust's atn/mod.rs: `IntervalSet`'s `normalize` and `contains`. The Rust normalizes a set after each interval; here that is
 // done once, when all of them are there.
 
+#![tactic(auto)]
+
 mod joining;
 
 ghost use Rattle.std.specs.Prelude.{◌≡◌, ◌*◌, ◌≤◌, length};

@@ -10,14 +10,14 @@ use crate::{compare, lending, stored, tally, written};
 use format::{Counts, Decoded, Refusal};
 
 // How far a case was compared, and whether all agreed.
-#[derive(Drop)]
+#[derive(Clone, Copy)]
 struct Sofar {
     at: usize,
     same: bool,
 }
 
 // The same of a whole case, and how many words are stored as written of its tables.
-#[derive(Drop)]
+#[derive(Clone, Copy)]
 struct Held {
     at: usize,
     written: usize,

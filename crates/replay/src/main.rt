@@ -3,6 +3,8 @@
 // that held other words before; the answer and every word of all nine tables are held to the stored ones. The decoded tables are
 // written (document 02, R-1), and these words held to stored ones (oracle/written.py). A summary is printed.
 
+#![tactic(auto)]
+
 mod cases;
 mod compare;
 mod lending;

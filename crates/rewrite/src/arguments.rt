@@ -5,7 +5,7 @@ use crate::numbers::{Natural, Token};
 use crate::{errors, numbers};
 
 // What is asked for: a rewrite of the file that the i-th argument names, the usage, or nothing, where a line has said what is wrong.
-#[derive(Drop)]
+#[derive(Clone, Copy)]
 pub enum Request {
     Rewrite(usize),
     Help,
@@ -13,7 +13,7 @@ pub enum Request {
 }
 
 // What the next argument has to be: an option or the file, a rule, a token type; or the rest doesn't count.
-#[derive(Drop)]
+#[derive(Clone, Copy)]
 enum Due {
     Any,
     Rule,
@@ -23,7 +23,7 @@ enum Due {
 }
 
 // The place of the file's name, 0 for none yet, and what is due.
-#[derive(Drop)]
+#[derive(Clone, Copy)]
 struct Sofar {
     file: usize,
     due: Due,

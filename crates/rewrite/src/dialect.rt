@@ -5,7 +5,7 @@ use format::{Counts, Decoded, Refusal, Written};
 
 // The number of words that were written; or why not: the decoder's refusal, the writer's, or a rule that is not listed, of which a line
 // has told.
-#[derive(Drop)]
+#[derive(Clone, Copy)]
 pub enum Outcome {
     Wrote(usize),
     Undecoded(Refusal),

@@ -2,6 +2,8 @@
 // that are asked for, and puts the words of the tables to standard output (document 02, R-1). What can't be rewritten is said in one
 // line on standard error, and then nothing is put out.
 
+#![tactic(auto)]
+
 mod arguments;
 mod dialect;
 mod errors;

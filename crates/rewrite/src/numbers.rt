@@ -3,14 +3,14 @@
 ghost use Rattle.std.specs.Prelude.{◌≡◌};
 
 // A number from 0 on, or no number. From ten thousand million on it only says that it is so large.
-#[derive(Drop)]
+#[derive(Clone, Copy)]
 pub enum Natural {
     Is(usize),
     Not,
 }
 
 // A token type, or no token type.
-#[derive(Drop)]
+#[derive(Clone, Copy)]
 pub enum Token {
     Is(i32),
     Not,

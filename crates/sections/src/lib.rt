@@ -2,6 +2,8 @@
 // Each takes the answer so far, and passes a refusal on; `inplace` has the definition of what each does.
 // From the Rust's atn/serialized.rs: `deserialize`'s header, `deserialize_states` to `deserialize_modes`, `deserialize_decisions`, `deserialize_lexer_actions`.
 
+#![tactic(auto)]
+
 ghost use Rattle.std.specs.Prelude.{List, ◌≡◌, ℕ, ◌*◌, ◌≤◌, ℤ, length};
 ghost use Rattle.format.specs.Reading.{Table, States, Rules, Modes, Decisions, Actions, run};
 ghost use Rattle.format.specs.Tables.{width};
@@ -24,7 +26,7 @@ mod stops;
 pub use stops::find_stops;
 
 // The sections that fill one table each.
-#[derive(Drop)]
+#[derive(Clone, Copy)]
 pub enum Section {
     States,
     Rules,

@@ -1,5 +1,7 @@
 // From the Rust's atn/serialized.rs: `AtnDeserializer::deserialize`, over lent tables (document 01, "Lent tables" and "Port order").
 
+#![tactic(auto)]
+
 ghost use Rattle.inplace.specs.Whole.{tables};
 ghost use Rattle.serialized.specs.Answered.{Decodes};
 

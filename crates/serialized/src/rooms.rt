@@ -6,7 +6,7 @@ ghost use Rattle.inplace.specs.Whole.{tables, blank};
 ghost use Rattle.serialized.specs.Rooms.{lengths, rooms_of};
 
 // Records for which there is room, in each table.
-#[derive(Drop)]
+#[derive(Clone, Copy)]
 pub struct Rooms {
     pub states: usize,
     pub edges: usize,

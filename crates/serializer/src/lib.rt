@@ -1,5 +1,7 @@
 // Document 02, R-1, "Turn tables back into words": the whole of it. First refusal 15, then the words, then refusal 16.
 
+#![tactic(auto)]
+
 ghost use Rattle.std.specs.Prelude.{[], length};
 ghost use Rattle.format.specs.Tables.{nine};
 ghost use Rattle.format.specs.Writing.{Writes, writing};

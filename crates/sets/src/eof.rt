@@ -11,7 +11,7 @@ use format::{Refusal, Spot};
 use words::Word;
 
 // The EOF flag and the place of the next word, or why not.
-#[derive(Drop)]
+#[derive(Clone, Copy)]
 pub enum Flag {
     Got(bool, usize),
     Refused(Refusal),

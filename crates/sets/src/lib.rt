@@ -2,6 +2,8 @@
 // begins at its first range.
 // From the Rust's atn/serialized.rs: `deserialize_sets`.
 
+#![tactic(auto)]
+
 mod eof;
 mod keeping;
 mod merging;

@@ -3,7 +3,7 @@
 use crate::{chains, names, records, symbols};
 
 // What a line is about: a record of one of these tables, or a state of the graph.
-#[derive(Drop)]
+#[derive(Clone, Copy)]
 pub enum About {
     Rule,
     Mode,

@@ -2,6 +2,8 @@
 // decisions, actions, sets and states with their edges, or says why it can't. Behind `--dot` the network is printed as a
 // Graphviz graph instead. What is printed is what the decoder put into the tables (document 01, "Lent tables").
 
+#![tactic(auto)]
+
 mod chains;
 mod edge_text;
 mod files;

@@ -1,6 +1,8 @@
 // Words of the lent tables (document 01, "Lent tables"): clearing a table, a record of it, and one word of it read or written as a record's number.
 // Everything that is signed about them stays in here.
 
+#![tactic(auto)]
+
 ghost use Rattle.std.specs.Prelude.{◌≡◌, ◌+◌, ◌*◌, ◌<◌, ◌≤◌, ◌^◌, pos, length, get_or, set};
 ghost use Rattle.format.specs.Sections.{same, size};
 ghost use Rattle.format.specs.Tables.{row_at, zeros};

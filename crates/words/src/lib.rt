@@ -2,6 +2,8 @@
 // The only place that touches a word's sign: everything above goes by `Index`, `Sign` and ℤ.
 // From the Rust's atn/serialized.rs: `read`, `read_usize`, `read_index`.
 
+#![tactic(auto)]
+
 ghost use Rattle.std.specs.Prelude.{◌≡◌, List, ℕ, ◌+◌, ◌<◌, ◌^◌, ℤ, pos};
 ghost use Rattle.format.specs.Reading.{Table, run, get, index, count, natural, known as isKnown, listed as isListed, refusal, bare as is_bare};
 ghost use Rattle.format.specs.Sections.{raised as isRaised, or_none};
@@ -11,27 +13,27 @@ ghost use Rattle.words.specs.Answers.{outcome, outcome_ix, Below};
 use format::{Refusal, Spot};
 
 // A word and the place of the next, or why not.
-#[derive(Drop)]
+#[derive(Clone, Copy)]
 pub enum Word {
     Got(i32, usize),
     Refused(Refusal),
 }
 
 // A word that is not negative and the place of the next, or why not.
-#[derive(Drop)]
+#[derive(Clone, Copy)]
 pub enum Index {
     Got(usize, usize),
     Refused(Refusal),
 }
 
 // The place of the next word, or why not: what a part of a section answers that leaves its words in a table.
-#[derive(Drop)]
+#[derive(Clone, Copy)]
 pub enum Step {
     Next(usize),
     Refused(Refusal),
 }
 
-#[derive(Drop)]
+#[derive(Clone, Copy)]
 pub enum Sign {
     Natural(usize),
     Negative,

@@ -1,5 +1,7 @@
 // Document 02, R-1, "Write the words for a set of lent tables": the words of the one fixed form, put into a lent output.
 
+#![tactic(auto)]
+
 mod counted;
 mod putting;
 mod records;
@@ -15,7 +17,7 @@ ghost use Rattle.writing.specs.Whole.{read_off, answer};
 use format::Written;
 
 // The sections whose records are written one by one; a name is a mode's or a decision's. "derived edges not written": the first are all the others.
-#[derive(Drop)]
+#[derive(Clone, Copy)]
 pub enum Section {
     States,
     Rules,
