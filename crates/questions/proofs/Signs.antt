@@ -45,11 +45,11 @@ negative P h (pos n) s = absurd (let e : ◌≡◌ {A = ℕ} 0 1 = cc in omega a
 negative P h (negsuc n) s = h n
 
 -- what a test says that `!` turned round
-pub refused : {r b : Bool} → r ≡ b → not r ≡ true → b ≡ false
-refused {r} e t = sym e ∙ not-true r t
+pub refused : {r b : Bool} → r ≡ b → r ≡ false → b ≡ false
+refused e t = sym e ∙ t
 
-pub passed : {r b : Bool} → r ≡ b → not r ≡ false → b ≡ true
-passed {r} e t = sym e ∙ not-false r t
+pub passed : {r b : Bool} → r ≡ b → r ≡ true → b ≡ true
+passed e t = sym e ∙ t
 
 -- a test that was passed, and then another
 pub both : {a b r t : Bool} → r ≡ a → r ≡ true → t ≡ b → t ≡ (a && b)

@@ -1,6 +1,6 @@
 -- "Matching", for each type of edge.
 use mathlib.Core.Path.{◌≡◌, refl}
-use mathlib.Core.Bool.{Bool, true, false, ◌&&◌, and_true, and-false, or-false}
+use mathlib.Core.Bool.{Bool, true, false, ◌&&◌, and-true, and-false, or-false}
 use Prim.Native.Nat.{ℕ}
 use lib.IntN.{ℤ}
 use lib.Signed.{le_z}
@@ -22,7 +22,7 @@ module _ (p q : ℤ) (hit : Bool) (v lo hi : ℤ) where
   hidden e h = rw (e, h) (simp and-false)
 
   pub shown : {k : ℕ} → k ≡ 8 → hit ≡ false → matching k p q hit v lo hi ≡ (le_z lo v && le_z v hi)
-  shown e h = rw (e, h) (simp (and_true, or-false))
+  shown e h = rw (e, h) (simp (and-true, or-false))
 
   pub any : {k : ℕ} → k ≡ 9 → matching k p q hit v lo hi ≡ (le_z lo v && le_z v hi)
   any e = rw e refl
