@@ -1,0 +1,8 @@
+-- `links::mark_precedence_decisions` meets its contract: what was accepted goes on, a refusal stays. Assumes nothing.
+use Rattle.std.proofs.Common.{refl}
+use Rattle.format.specs.Reading.{run}
+use Rattle.links.proofs.mark_precedence_decisions.Goals as goal
+
+pub returns-in-Accepted : goal.returns-in-Accepted
+unfolding run
+returns-in-Accepted c = λ ws rooms. rw (c.in-Accepted.is, c.mark_all.ensures) refl
