@@ -5,7 +5,7 @@ use Rattle.std.proofs.Common.{◌∙◌, subst, ⊎_elim, arith, length-append, 
 use Rattle.std.proofs.Math.IntN.{pos}
 use Rattle.std.proofs.Math.ListN.{length}
 use Rattle.format.specs.Reading.{Table, States, Edges, Rules, run, ok, pick}
-use Rattle.format.specs.Sections.{Edge, Read, bit, edges, states, rules, sets}
+use Rattle.format.specs.Sections.{Edge, Read, bit}
 use Rattle.format.specs.Links.{flat, tail}
 use Rattle.format.specs.Tables.{room, numbered, edges_of, derived_of, flags_of, mark_of, edge_words, records, zeros, table}
 use Rattle.format.specs.Decode.{dialect}
