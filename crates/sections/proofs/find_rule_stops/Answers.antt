@@ -1,0 +1,8 @@
+-- `sections::find_rule_stops` meets its contract: a refusal is passed on. Assumes nothing.
+use Rattle.std.proofs.Common.{refl}
+use Rattle.format.specs.Reading.{run}
+use Rattle.sections.proofs.find_rule_stops.Goals as goal
+
+pub returns-in-Accepted : goal.returns-in-Accepted
+unfolding run
+returns-in-Accepted c = λ ws rooms. rw (c.in-Accepted.is, c.find_stops.ensures) refl
