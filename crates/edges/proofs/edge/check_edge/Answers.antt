@@ -18,7 +18,8 @@ returns-in-Got-listed-clause-says c =
     let ta = rw (c.in-Got.is, fa) at c.test_a.ensures in
     let tb = rw (c.in-Got-test_b.is, fb) at c.test_b.ensures in
     let ts = rw c.in-Got-listed.is at c.listed.ensures.says in
-    let wrote = c.decode_transition.ensures ∙ ap (edge_row 0) (meaning-same a.kind e.source e.target fa fb fc) in λ ws rooms. rw wrote (checked_ok a.«record» a.nstates a.nsets a.place a.kind e ws rooms a.next c.requires.1 (ta ws rooms) (tb ws rooms) (ts ws rooms))
+    let wrote = c.decode_transition.ensures ∙ ap (edge_row 0) (meaning-same a.kind e.source e.target fa fb fc) in
+    λ ws rooms. rw wrote (checked_ok a.«record» a.nstates a.nsets a.place a.kind e ws rooms a.next c.requires.1 (ta ws rooms) (tb ws rooms) (ts ws rooms))
 
 pub returns-in-Refused-listed-clause-says : goal.returns-in-Refused-listed-clause-says
 unfolding checked

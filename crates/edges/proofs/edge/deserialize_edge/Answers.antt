@@ -13,7 +13,8 @@ returns-in-Got-known-clause-says c =
     let ws = a.words.now in
     let x = c.in-Got.e in
     let six = rw c.in-Got.is at c.read_edge.ensures.says in
-    let kind = rw (c.in-Got-known.is, back32 x.kind (search rules)) at c.known.ensures.says in λ rooms. c.check_edge.ensures.says ws rooms
+    let kind = rw (c.in-Got-known.is, back32 x.kind (search rules)) at c.known.ensures.says in
+    λ rooms. c.check_edge.ensures.says ws rooms
     ∙ sym (ap rowed (edge_is a.«record» a.nstates a.nsets ws rooms a.at ∙ ok_then _ _ _ _ _ (six rooms) ∙ ok_then _ _ _ _ _ (kind ws rooms)))
 
 pub returns-in-Refused-known-clause-says : goal.returns-in-Refused-known-clause-says

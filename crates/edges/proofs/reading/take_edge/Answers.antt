@@ -9,7 +9,8 @@ returns-in-Natural-sign_of-clause-says c =
     let a = c.args in
     let ws = a.words.now in
     let s = its_sign (get_or ws a.at (pos 0)) (search rules) c.sign_of.ensures c.in-Natural.is in
-    let t = its_sign (get_or ws (a.at + 1) (pos 0)) (search rules) c.sign_of-in-Natural.ensures c.in-Natural-sign_of.is in λ rooms. rw (back32 (get_or ws (a.at + 2) (pos 0)) (search rules), back32 (get_or ws (a.at + 3) (pos 0)) (search rules), back32 (get_or ws (a.at + 4) (pos 0)) (search rules), back32 (get_or ws (a.at + 5) (pos 0)) (search rules)) (six_ok a.«record» ws rooms a.at c.requires s t)
+    let t = its_sign (get_or ws (a.at + 1) (pos 0)) (search rules) c.sign_of-in-Natural.ensures c.in-Natural-sign_of.is in
+    λ rooms. rw (back32 (get_or ws (a.at + 2) (pos 0)) (search rules), back32 (get_or ws (a.at + 3) (pos 0)) (search rules), back32 (get_or ws (a.at + 4) (pos 0)) (search rules), back32 (get_or ws (a.at + 5) (pos 0)) (search rules)) (six_ok a.«record» ws rooms a.at c.requires s t)
 
 pub returns-in-Negative-sign_of-clause-says : goal.returns-in-Negative-sign_of-clause-says
 returns-in-Negative-sign_of-clause-says c =
