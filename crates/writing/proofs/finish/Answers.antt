@@ -1,13 +1,6 @@
 -- `finish` meets its contract: what was laid is the words if they fit, and behind them the output is cleared. Assumes nothing.
-use mathlib.Core.Path.{◌≡◌, refl, sym, ◌∙◌}
-use mathlib.Core.List.{List, [], append-nil}
-use Prim.Native.Nat.{ℕ, ◌-◌, ◌≤◌, ◌<◌}
-use native.Mathlib.Omega.{arith}
-use lib.IntN.{ℤ}
-use lib.ListN.{length, take, drop}
-use lib.Seq.{take_at, drop-length}
-use borrow.Author.Rules.{rules}
-use borrow.Author.Tests.{lt-ltb, le-ltb}
+use Rattle.std.proofs.Common.{◌≡◌, refl, sym, ◌∙◌, List, [], append-nil, ℕ, ◌-◌, ◌≤◌, ◌<◌, arith, ℤ, length, take, drop, take_at, lt-ltb, le-ltb}
+use lib.Seq.{drop-length}
 use borrow.Rule.Slice.PartMut.{mid_of, post_of, put_mid, Post-is, mid_len}
 use Rattle.format.specs.Writing.{writing}
 use Rattle.format.specs.Reading.{bare}
@@ -16,8 +9,7 @@ use Rattle.format.specs.declared.Refusal.{Refusal}
 use Rattle.format.specs.declared.Written.TheVariants as W
 use Rattle.writing.specs.Laid.{Lays, lays_long, laid-fits}
 use Rattle.writing.specs.Whole.{answer}
-use Rattle.writing.proofs.finish.Statement.{statement}
-use Rattle.writing.proofs.finish.Tie as tie
+use Rattle.writing.proofs.finish.Goals as goal
 
 module _ {most n : ℕ} {ws old out : List ℤ} (x : Lays most 0 ws old out n) where
   count : n ≡ length ws
@@ -36,24 +28,8 @@ module _ {most n : ℕ} {ws old out : List ℤ} (x : Lays most 0 ws old out n) w
   whole {zs} h z =
       rw (le-ltb (length old) (length ws) (omega (arith, count, lays_long x)), front h, behind h, append-nil zs, z, mid_len n (length out) out (omega arith), lays_long x, count) refl
 
-returns : tie.Need-returns
-returns c = λ most ws old x. short x c.before.before.before.before.if1.true c.bare.ensures c.before.before.clear.ensures
+pub returns-then-out-n : goal.returns-then-out-n
+returns-then-out-n c = λ most ws old x. short x c.if-out-n.true c.bare.ensures c.clear.ensures
 
-returns-2 : tie.Need-returns-2
-returns-2 c = λ most ws old x. whole x c.before.before.before.if1.false c.before.clear2.ensures
-
-pub finish_spec : {M : Type 1} → statement M
-finish_spec =
-    tie.close
-    (tie.spec
-    (λ c κs. search rules)
-    (λ c κs. search rules)
-    (λ c. search rules)
-    returns
-    (λ c. search rules)
-    (λ c. search rules)
-    (λ c. search rules)
-    (λ c. search rules)
-    (λ c κs. search rules)
-    (λ c. search rules)
-    returns-2)
+pub returns : goal.returns
+returns c = λ most ws old x. whole x c.if-out-n.false c.clear-2.ensures
