@@ -1,7 +1,7 @@
 -- What a word's sign and size say of it, and what a test came to.
 use mathlib.Core.Path.{◌≡◌, refl, sym, ap, ◌∙◌}
 use mathlib.Core.List.{List}
-use mathlib.Core.Bool.{Bool, true, false, not, ◌&&◌}
+use mathlib.Core.Bool.{Bool, true, false, ◌&&◌}
 use Prim.Native.Nat.{ℕ, zero, suc, ◌-◌, ◌^◌}
 use native.Mathlib.Omega.{arith}
 use lib.Dec.{leb-zero, ltb, eqb, eqb-suc-zero}
@@ -9,7 +9,7 @@ use lib.IntN.{ℤ, pos, negsuc}
 use lib.Signed.{le_z}
 use mir.Syntax.{w32}
 use mir.Val.{SFits, of_z}
-use borrow.Author.Tests.{ne_eqb, not-true, not-false}
+use borrow.Author.Tests.{ne_eqb}
 use Rattle.format.specs.Sections.{same, size}
 use Rattle.format.specs.Links.{names}
 use Rattle.rewriting.specs.Formed.{natural, absent}
@@ -32,16 +32,16 @@ absent_bits (pos n) f = ne_eqb n 4294967295 (λ e. omega (arith, f.sfits))
 absent_bits (negsuc zero) f = refl
 absent_bits (negsuc (suc n)) f = ne_eqb (2 ^ 32 - suc (suc n)) 4294967295 (λ e. omega arith) ∙ sym (eqb-suc-zero n)
 
--- what a test says that `!` turned round
-pub failed : {r b : Bool} → r ≡ b → not r ≡ true → b ≡ false
-failed {r} e t = sym e ∙ not-true r t
+-- what a test says of what it tests
+pub failed : {r b : Bool} → r ≡ b → r ≡ false → b ≡ false
+failed e t = sym e ∙ t
 
-pub passed : {r b : Bool} → r ≡ b → not r ≡ false → b ≡ true
-passed {r} e t = sym e ∙ not-false r t
+pub passed : {r b : Bool} → r ≡ b → r ≡ true → b ≡ true
+passed e t = sym e ∙ t
 
 -- the same of a test that was made of a table's record
-pub row-failed : (f : List ℤ → Bool) {r : Bool} {x y : List ℤ} → r ≡ f x → x ≡ y → not r ≡ true → f y ≡ false
+pub row-failed : (f : List ℤ → Bool) {r : Bool} {x y : List ℤ} → r ≡ f x → x ≡ y → r ≡ false → f y ≡ false
 row-failed f e q t = failed (e ∙ ap f q) t
 
-pub row-passed : (f : List ℤ → Bool) {r : Bool} {x y : List ℤ} → r ≡ f x → x ≡ y → not r ≡ false → f y ≡ true
+pub row-passed : (f : List ℤ → Bool) {r : Bool} {x y : List ℤ} → r ≡ f x → x ≡ y → r ≡ true → f y ≡ true
 row-passed f e q t = passed (e ∙ ap f q) t

@@ -1,7 +1,7 @@
 -- Ranges in a row, and sets in a row, tested one after the other.
 use Rattle.std.specs.Prelude.{◌≡◌, refl, List, [], ◌∷◌, Bool, true, false, ◌&&◌, ℕ, zero, suc, ◌+◌, ◌-◌, ◌*◌, ◌≤◌, ◌<◌, leb, ltb, eqb, ℤ, pos, length, take, drop}
 use Rattle.std.proofs.Common.{sym, ap, ◌∙◌, arith, add-one, length-drop, drop-cons, leb-true, le-leb}
-use Rattle.std.proofs.Math.Bool.{and_true, and-false}
+use Rattle.std.proofs.Math.Bool.{and-true, and-false}
 use Rattle.std.proofs.Math.Nat.{sub-zero}
 use Rattle.std.proofs.Math.Dec.{leb-zero}
 use Rattle.std.proofs.lemmas.Bool.{lt-leb}
@@ -87,7 +87,7 @@ module _ (m : ℕ) (ra : List ℤ) (b : ℕ) (x : List ℤ) where
 
   pub set-within : b + cell_size x se_count ≤ m
       → (set_row b x && kept 0 (ranges_at ra b x)) ≡ set_fine m ra b x
-  set-within h = rw (le-leb (b + cell_size x se_count) m h, and_true) refl
+  set-within h = rw (le-leb (b + cell_size x se_count) m h, and-true) refl
 
   set-inside : set_fine m ra b x ≡ true → b + cell_size x se_count ≤ m
   set-inside e =

@@ -52,9 +52,9 @@ module _ {F : List (List ℤ) → List ℤ} {most w n at i a : ℕ} {t old mid :
       lays_more k (lays_then y (rw e at x.lays))
 
 -- the words f of each record
-pub turned_more : {f : List ℤ → List ℤ} {most w n at i a b : ℕ} {t row old mid new : List ℤ} → Turned (each f) most w n t at old mid a i → i < n
+pub turned_more : (f : List ℤ → List ℤ) {most w n at i a b : ℕ} {t row old mid new : List ℤ} → Turned (each f) most w n t at old mid a i → i < n
     → row ≡ row_at w t i → Lays most a (f row) mid new b → Turned (each f) most w n t at old new b (i + 1)
-turned_more {f} {w = w} {i = i} {t = t} {row} x h e y = turned_on x h e (each-one f (rows_of w i t) row) y
+turned_more f {w = w} {i = i} {t = t} {row} x h e y = turned_on x h e (each-one f (rows_of w i t) row) y
 
 -- all of them, behind other words
 pub turned_each : {A : Type 0} (f : A → List ℤ) (g : List ℤ → A) {j k most w n i at a b : ℕ} {t old mid new ps : List ℤ} → Lays j at ps old mid a
@@ -62,9 +62,9 @@ pub turned_each : {A : Type 0} (f : A → List ℤ) (g : List ℤ → A) {j k mo
 turned_each f g y x h m = rw (each_map f g) (turned_all x y h m)
 
 -- "counted": behind their number
-pub turned_counted : {f : List ℤ → List ℤ} {j k most w n i at a b : ℕ} {t old mid new : List ℤ} → Lays j at (pos n ∷ []) old mid a
+pub turned_counted : (f : List ℤ → List ℤ) {j k most w n i at a b : ℕ} {t old mid new : List ℤ} → Lays j at (pos n ∷ []) old mid a
     → Turned (each f) most w n t a mid new b i → n ≤ i → j + most * n ≤ k → Lays k at (counted f (rows_of w n t)) old new b
-turned_counted {w = w} {n} {t = t} y x h m = rw (rows_long w n t) (turned_all x y h m)
+turned_counted f {w = w} {n} {t = t} y x h m = rw (rows_long w n t) (turned_all x y h m)
 
 -- ---- the numbers of those that pass a test, whose count goes before them when they are laid
 

@@ -1,0 +1,12 @@
+-- `passes::states_fine` meets its contract: the first i states are fine. Assumes nothing.
+use Rattle.std.proofs.Common.{◌-◌}
+use Rattle.format.specs.Tables.{row_at}
+use Rattle.rewriting.specs.Passes.{state_fine}
+use Rattle.checking.specs.Pass.{Pass}
+use Rattle.checking.proofs.passes.states_fine.Given as goal
+
+abbrev pub invariant-loop-i : goal.invariant-loop-i
+invariant-loop-i l = Pass (λ j. state_fine (row_at 8 l.states j)) l.n l.i
+
+abbrev pub decreases-loop-i : goal.decreases-loop-i
+decreases-loop-i l = l.n - l.i
