@@ -1,5 +1,5 @@
 -- `chains::chains_fine` meets its contract: the states before have their chains, and so many edges. Assumes nothing.
-use Rattle.std.proofs.Common.{refl, sym, ◌∙◌, true}
+use Rattle.std.proofs.Common.{refl, sym, ◌∙◌}
 use Rattle.rewriting.specs.All.{all_fails}
 use Rattle.wiring.specs.Chains.{chain_fine}
 use Rattle.wiring.proofs.chains.chains_fine.Goals as goal

@@ -1,5 +1,5 @@
 -- `chains::climbs` meets its contract: what is left of the chain from the present edge gives what was asked from the first. Assumes nothing.
-use Rattle.std.proofs.Common.{sym, ap, ◌∙◌, ◌&&◌, ◌+◌, ◌-◌, ◌*◌, arith, ℤ, pos, get_or, w32, to_z, of_z}
+use Rattle.std.proofs.Common.{rules, sym, ap, ◌∙◌, ◌&&◌, ◌+◌, ◌-◌, ◌*◌, arith, ℤ, pos, get_or, w32, to_z, of_z}
 use Rattle.format.specs.Sections.{none, same}
 use Rattle.words.proofs.Signs.{back32}
 use Rattle.rewriting.specs.Climbs.{climbs}

@@ -1,5 +1,5 @@
 -- `decisions::decisions_fine` meets its contract: the states before pass the test. Assumes nothing.
-use Rattle.std.proofs.Common.{sym, ◌∙◌, true, arith, rules}
+use Rattle.std.proofs.Common.{sym, ◌∙◌, arith}
 use Rattle.rewriting.specs.All.{all_more, all_fails}
 use Rattle.wiring.specs.Decisions.{decision_fine}
 use Rattle.wiring.proofs.decisions.decisions_fine.Goals as goal

@@ -1,5 +1,5 @@
 -- `decisions::decisions_fine` meets its contract: the states before pass the test. Assumes nothing.
-use Rattle.std.proofs.Common.{◌≡◌, true, ◌-◌, ◌≤◌, rules}
+use Rattle.std.proofs.Common.{◌≡◌, true, ◌-◌, ◌≤◌}
 use Rattle.rewriting.specs.Passes.{all}
 use Rattle.wiring.specs.Decisions.{decision_fine}
 use Rattle.wiring.proofs.decisions.decisions_fine.Given as goal

@@ -1,5 +1,5 @@
 -- `marks::marks_fine` meets its contract: the edges before have their marks, and the search is idle. Assumes nothing.
-use Rattle.std.proofs.Common.{sym, ◌∙◌, Bool, true, List, ℕ, eqb, ℤ, ne_eqb}
+use Rattle.std.proofs.Common.{sym, ◌∙◌, Bool, List, ℕ, eqb, ℤ, ne_eqb}
 use Rattle.rewriting.specs.All.{all_fails}
 use Rattle.wiring.specs.Marks.{mark_in, mark_for}
 use Rattle.wiring.proofs.marks.marks_fine.Goals as goal

@@ -1,5 +1,5 @@
 -- `returns::meet` meets its contract: by its tests, in their order. Assumes nothing.
-use Rattle.std.proofs.Common.{sym, ◌∙◌, true, false, arith, rules}
+use Rattle.std.proofs.Common.{sym, ◌∙◌, true, false, arith}
 use Rattle.wiring.specs.Returns.{met-derived, met-none, met_late, met_there}
 use Rattle.wiring.proofs.returns.meet.Goals as goal
 

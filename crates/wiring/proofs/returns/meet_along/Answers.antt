@@ -1,5 +1,5 @@
 -- `returns::meet_along` meets its contract: what is left of the chain from the present edge gives what was asked from the first. Assumes nothing.
-use Rattle.std.proofs.Common.{sym, ◌∙◌, arith, rules}
+use Rattle.std.proofs.Common.{sym, ◌∙◌, arith}
 use Rattle.wiring.specs.Returns.{on_far, on_more, on_end}
 use Rattle.wiring.proofs.returns.meet_along.Goals as goal
 

@@ -1,5 +1,5 @@
 -- `returns::meet_along` meets its contract: what is left of the chain from the present edge gives what was asked from the first. Assumes nothing.
-use Rattle.std.proofs.Common.{◌≡◌, rules}
+use Rattle.std.proofs.Common.{◌≡◌}
 use Rattle.wiring.specs.Returns.{met_on, met_along}
 use Rattle.wiring.proofs.returns.meet_along.Given as goal
 

@@ -1,5 +1,5 @@
 -- `returns::returns_fine` meets its contract: j is behind the return edges of the states before. Assumes nothing.
-use Rattle.std.proofs.Common.{sym, ap, ◌∙◌, arith, rules}
+use Rattle.std.proofs.Common.{sym, ap, ◌∙◌, arith}
 use Rattle.wiring.specs.Returns.{met_along, from_more, from_start}
 use Rattle.wiring.proofs.returns.returns_fine.Goals as goal
 

@@ -1,5 +1,5 @@
 -- `returns::returns_fine` meets its contract: j is behind the return edges of the states before. Assumes nothing.
-use Rattle.std.proofs.Common.{◌≡◌, ◌-◌, ◌≤◌, rules}
+use Rattle.std.proofs.Common.{◌≡◌, ◌-◌, ◌≤◌}
 use Rattle.wiring.specs.Returns.{met_from}
 use Rattle.wiring.proofs.returns.returns_fine.Given as goal
 

@@ -1,5 +1,5 @@
 -- `stops::same_stops` meets its contract: the rules before have the stops that were found. Assumes nothing.
-use Rattle.std.proofs.Common.{◌≡◌, sym, ◌∙◌, Bool, true, List, ℕ, ℤ, rules}
+use Rattle.std.proofs.Common.{◌≡◌, sym, ◌∙◌, Bool, List, ℕ, ℤ, rules}
 use Rattle.format.specs.Sections.{same}
 use Rattle.format.specs.Places.{ru_stop}
 use Rattle.inplace.specs.Rows.{word_of}
