@@ -6,7 +6,7 @@ use mathlib.Core.List.{List, [], ◌∷◌, ◌++◌, append-nil, append_assoc}
 use Prim.Native.Nat.{ℕ, zero, suc, ◌+◌, ◌*◌, ◌≤◌, ◌<◌}
 use Rattle.std.proofs.Math.Nat.{sub-zero}
 use Rattle.std.proofs.Math.ListN.{length, length-append}
-use Rattle.format.specs.Reading.{Table, Edges, Outcome, ok, done, run, ◌>>=◌, times, listed, count}
+use Rattle.format.specs.Reading.{Table, Edges, Outcome, ok, done, run, ◌>>=◌, times, count}
 use Rattle.format.specs.Sections.{State, Edge, edge, edges}
 use Rattle.format.specs.Tables.{zeros}
 use Rattle.format.specs.declared.Counts.{Counts}

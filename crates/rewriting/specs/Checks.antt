@@ -18,7 +18,7 @@ use Rattle.laws.specs.Safe.{every_true}
 use Rattle.laws.specs.Order.{order}
 use Rattle.laws.specs.Fits.{Roomed}
 use Rattle.laws.specs.Sound.{Return, derived_are}
-use Rattle.rewriting.specs.Formed.{natural, state_read, kept, args_read, edge_read, action_read, listed, Formed}
+use Rattle.rewriting.specs.Formed.{natural, state_read, kept, args_read, edge_read, action_read, Formed}
 use Rattle.rewriting.specs.Passes.{state_fine, edge_fine, action_fine}
 use Rattle.rewriting.specs.Found.{most, Found}
 use Rattle.rewriting.specs.Tests.{lie, both, left, right}

@@ -1,5 +1,5 @@
 -- `contains` meets its contract: its loop takes the steps of `halve`. Assumes nothing.
-use Rattle.std.proofs.Common.{◌≡◌, sym, ◌∙◌, ◌-◌, ◌+◌, ◌*◌, ◌/◌, arith, pos, get_or, w32, to_z, of_z}
+use Rattle.std.proofs.Common.{sym, ◌∙◌, ◌-◌, ◌+◌, ◌*◌, ◌/◌, arith, pos, get_or, w32, to_z, of_z}
 use mir.ValLaws.{to_z-of_z}
 use Rattle.ranges.proofs.Halving.{halving, turn_up, turn_down, met-none, met_some}
 use Rattle.ranges.proofs.contains.Goals as goal

@@ -1,5 +1,5 @@
 -- `deserialize`: the tables are cleared, so that filling them runs over `blank`; what that came to decides the rest (`concluded`).
-use Rattle.std.proofs.Common.{◌≡◌, refl, ◌∙◌, rules}
+use Rattle.std.proofs.Common.{◌≡◌, refl, ◌∙◌}
 use Rattle.format.specs.Reading.{run}
 use Rattle.format.specs.Tables.{room}
 use Rattle.inplace.specs.Held.{held}

@@ -1,5 +1,5 @@
 -- `matching::by_part` meets its contract: what is looked up in is the part. Assumes nothing.
-use Rattle.std.proofs.Common.{◌≡◌, ap, ◌-◌, ◌+◌, arith, length}
+use Rattle.std.proofs.Common.{◌≡◌, ap, ◌-◌, ◌+◌, arith}
 use Rattle.format.specs.declared.Matching.TheVariants.{Matches}
 use Rattle.words.proofs.Signs.{back32}
 use Rattle.questions.proofs.matching.by_part.Goals as goal

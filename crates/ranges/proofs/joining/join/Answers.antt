@@ -1,9 +1,7 @@
 -- `joining::join` meets its contract: its loop takes the turns of `join_on`. Assumes nothing.
-use Rattle.std.proofs.Common.{◌≡◌, refl, sym, ◌∙◌, arith, w32, to_z, of_z}
+use Rattle.std.proofs.Common.{refl, sym, ◌∙◌, arith, w32}
 use mir.ValLaws.{to_z-of_z}
-use Rattle.format.specs.Sets.{Range, range}
-use Rattle.ordering.specs.Records.{pair_at}
-use Rattle.ranges.specs.Joining.{straight}
+use Rattle.format.specs.Sets.{range}
 use Rattle.ranges.proofs.Sweep.{going, step-apart, step_joined, finish}
 use Rattle.ranges.proofs.joining.join.Goals as goal
 

@@ -1,6 +1,6 @@
 -- `fill`: each section says its own equation, and `assembled` puts them together; that the counts stay within the rooms (`kept`) answers
 -- what each section asks of the tables that those before it filled.
-use Rattle.std.proofs.Common.{refl, sym, arith, rules}
+use Rattle.std.proofs.Common.{refl, sym, arith}
 use Rattle.format.specs.Reading.{States, Edges, Rules, Modes, Decisions, Actions}
 use Rattle.inplace.specs.Sections.{section, flagging, stopping}
 use Rattle.inplace.specs.Sets.{setting, sets2}
