@@ -21,7 +21,7 @@ use Rattle.rewriting.specs.Passes.{all, state_fine, states_fine, edge_fine, edge
 use Rattle.rewriting.specs.All.{all_exactly}
 use Rattle.rewriting.specs.Fine.{states_in, edges_in, rules_of, at, in_row}
 use Rattle.rewriting.specs.SetsInRow.{sets_exactly}
-use Rattle.rewriting.specs.Climbs.{sum, sum_of, sources, climb, climbs, climbs-same}
+use Rattle.rewriting.specs.Climbs.{sum, sum_of, sources, climb, climbs-same}
 use Rattle.rewriting.specs.Checks.{own_first, row, Joined, Checked}
 use Rattle.rewriting.specs.Held.{rows_take, inside-lie, rows_long, rows_at, Lie, lent_exactly}
 use Rattle.serializer.specs.Tests.{few_in, joined_in, marked_in, others_in, fine}

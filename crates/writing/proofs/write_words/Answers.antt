@@ -10,6 +10,7 @@ use Rattle.writing.specs.Sections.{counted_back}
 use Rattle.writing.specs.Whole.{read_off}
 use Rattle.writing.proofs.write_words.Goals as goal
 
+-- the sections, one behind another
 sections : (r : Read) {k a b c d e f g h i j : ℕ} {l₀ l₁ l₂ l₃ l₄ l₅ l₆ l₇ l₈ l₉ l₁₀ : List ℤ}
     → Lays 3 0 (pos 4 ∷ pos 0 ∷ r.token ∷ []) l₀ l₁ a → Lays k a (counted state_form r.states) l₁ l₂ b
     → Lays k b (counted state_word r.nongreedy) l₂ l₃ c → Lays k c (counted state_word r.recursive) l₃ l₄ d → Lays k d (counted rule_form r.rules) l₄ l₅ e

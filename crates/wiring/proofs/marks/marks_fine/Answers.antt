@@ -1,11 +1,9 @@
 -- `marks::marks_fine` meets its contract: the edges before have their marks, and the search is idle. Assumes nothing.
-use Rattle.std.proofs.Common.{sym, ◌∙◌, Bool, List, ℕ, eqb, ℤ, ne_eqb}
+use Rattle.std.proofs.Common.{sym, ◌∙◌, ne_eqb}
 use Rattle.rewriting.specs.All.{all_fails}
-use Rattle.wiring.specs.Marks.{mark_in, mark_for}
+use Rattle.wiring.specs.Marks.{mark_in}
+use Rattle.wiring.proofs.marks.marks_fine.Invariants.{right}
 use Rattle.wiring.proofs.marks.marks_fine.Goals as goal
-
-abbrev right : ℕ → ℕ → ℕ → List ℤ → List ℤ → ℕ → ℕ → Bool
-right n m k st ed o i = eqb (mark_in ed i) (mark_for n m k st ed o i)
 
 pub returns-then-number_at-mark : goal.returns-then-number_at-mark
 returns-then-number_at-mark c =

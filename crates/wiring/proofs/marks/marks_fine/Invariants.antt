@@ -6,7 +6,8 @@ use Rattle.rewriting.specs.Passes.{all}
 use Rattle.wiring.specs.Marks.{mark_in, mark_for}
 use Rattle.wiring.proofs.marks.marks_fine.Given as goal
 
-abbrev right : ℕ → ℕ → ℕ → List ℤ → List ℤ → ℕ → ℕ → Bool
+-- The edge i has its mark.
+abbrev pub right : ℕ → ℕ → ℕ → List ℤ → List ℤ → ℕ → ℕ → Bool
 right n m k st ed o i = eqb (mark_in ed i) (mark_for n m k st ed o i)
 
 abbrev pub invariant-loop-i : goal.invariant-loop-i

@@ -1,14 +1,11 @@
 -- `stops::same_stops` meets its contract: the rules before have the stops that were found. Assumes nothing.
-use Rattle.std.proofs.Common.{◌≡◌, sym, ◌∙◌, Bool, List, ℕ, ℤ, rules}
-use Rattle.format.specs.Sections.{same}
+use Rattle.std.proofs.Common.{◌≡◌, sym, ◌∙◌, rules}
 use Rattle.format.specs.Places.{ru_stop}
 use Rattle.inplace.specs.Rows.{word_of}
 use Rattle.words.proofs.Signs.{back32}
 use Rattle.rewriting.specs.All.{all_fails}
+use Rattle.wiring.proofs.stops.same_stops.Invariants.{test}
 use Rattle.wiring.proofs.stops.same_stops.Goals as goal
-
-abbrev test : List ℤ → List ℤ → ℕ → Bool
-test ru found R = same (word_of 3 ru R ru_stop) (word_of 3 found R ru_stop)
 
 pub returns-then-not-equal : goal.returns-then-not-equal
 returns-then-not-equal c =

@@ -6,7 +6,8 @@ use Rattle.inplace.specs.Rows.{word_of}
 use Rattle.rewriting.specs.Passes.{all}
 use Rattle.wiring.proofs.stops.same_stops.Given as goal
 
-abbrev test : List ℤ → List ℤ → ℕ → Bool
+-- The rule R has the stop that was found.
+abbrev pub test : List ℤ → List ℤ → ℕ → Bool
 test ru found R = same (word_of 3 ru R ru_stop) (word_of 3 found R ru_stop)
 
 abbrev pub invariant-loop-i : goal.invariant-loop-i

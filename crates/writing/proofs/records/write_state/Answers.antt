@@ -4,9 +4,11 @@ use Rattle.format.specs.Sections.{follows}
 use Rattle.writing.specs.Laid.{lays_then, lays_more}
 use Rattle.writing.proofs.records.write_state.Goals as goal
 
+-- so many follow
 following : {n k s : ℕ} → n ≡ get_or follows k 0 → k ≡ s → get_or follows s 0 ≡ n
 following e f = sym (e ∙ ap (λ (k : ℕ). get_or follows k 0) f)
 
+-- neither none nor one: both
 both : (n : ℕ) (a b : ℤ) {m : ℕ} → n ≡ m → (m ≡ 0 → ⊥) → (m ≡ 1 → ⊥) → take n (a ∷ b ∷ []) ≡ a ∷ b ∷ []
 both n a b e none one = take_all n (a ∷ b ∷ []) (omega arith)
 

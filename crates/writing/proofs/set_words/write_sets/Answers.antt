@@ -3,6 +3,7 @@ use Rattle.std.proofs.Common.{◌≡◌, ap, List, ℕ, ◌-◌, ◌*◌, arith,
 use Rattle.writing.proofs.Cuts.{cut-none, cut-room, cut-more, cut_all}
 use Rattle.writing.proofs.set_words.write_sets.Goals as goal
 
+-- the part of the ranges from a place on
 rest : (l : List ℤ) (k : ℕ) → take (length l - k) (drop k l) ≡ drop k l
 rest l k = take_all (length l - k) (drop k l) (omega (arith, length-drop k l))
 
