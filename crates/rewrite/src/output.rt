@@ -1,7 +1,7 @@
 // Words as bytes on standard output, four to a word, the least first, as crate `loading` reads them.
 
 ghost use Rattle.std.specs.Prelude.{◌≡◌, ℕ, ◌+◌, ◌*◌, ◌≤◌, ◌<◌, pos, length, get_or};
-ghost use Rattle.io.specs.Counts.{IsPrefixLen};
+ghost use Rattle.rewrite.specs.Counts.{IsPrefixLen};
 ghost use Rattle.loading.specs.Bytes.{signed_of, word_at};
 ghost use Rattle.rewrite.specs.Spelled.{spelled};
 
