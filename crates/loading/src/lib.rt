@@ -1,6 +1,10 @@
-// The bytes of a dialect file as words: a file holds little-endian 32-bit words, and nothing else.
+// The bytes of a dialect file as words: a file holds little-endian 32-bit words, and nothing else. And what the programs read: `files` has
+// a file's bytes, `arguments` the words of the command line.
 
 #![tactic(auto)]
+
+pub mod arguments;
+pub mod files;
 
 ghost use Rattle.std.specs.Prelude.{◌≡◌, ◌+◌, ◌*◌, ◌/◌, ◌≤◌, min, length};
 ghost use Rattle.loading.specs.Bytes.{unsigned_of, signed_of, word_at, filled};

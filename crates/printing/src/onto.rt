@@ -1,13 +1,15 @@
-// Words and numbers on a file descriptor, so that standard output and standard error get the same ones.
+// Words and numbers on what prints, so that standard output and standard error get the same ones.
 
 ghost use Rattle.std.specs.Prelude.{◌≡◌, nat_abs};
 
-pub fn text(fd: i32, piece: &[u8]) {
-    io::write_all(fd, piece);
+use std::io;
+
+pub fn text(to: &impl Print, piece: &[u8]) -> io::Result<()> {
+    to.write_all(piece)
 }
 
-pub fn size(fd: i32, n: usize) {
-    io::print_decimal(fd, n as u64);
+pub fn size(to: &impl Print, n: usize) -> io::Result<()> {
+    to.print(n)
 }
 
 // A number without its sign: one below it, and one more, so that the least number has one too.
@@ -17,17 +19,17 @@ fn magnitude(n: i64) -> u64
     if n < 0 { (-1 - n) as u64 + 1 } else { n as u64 }
 }
 
-pub fn number(fd: i32, n: i64) {
+pub fn number(to: &impl Print, n: i64) -> io::Result<()> {
     if n < 0 {
-        text(fd, b"-");
+        text(to, b"-")?;
     }
-    io::print_decimal(fd, magnitude(n));
+    to.print(magnitude(n))
 }
 
 // A whole line about a file, or about an argument.
-pub fn line(fd: i32, about: &[u8], why: &[u8]) {
-    text(fd, about);
-    text(fd, b": ");
-    text(fd, why);
-    text(fd, b"\n");
+pub fn line(to: &impl Print, about: &[u8], why: &[u8]) -> io::Result<()> {
+    text(to, about)?;
+    text(to, b": ")?;
+    text(to, why)?;
+    text(to, b"\n")
 }

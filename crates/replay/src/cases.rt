@@ -8,6 +8,7 @@ ghost use Rattle.std.specs.Prelude.{◌<◌, ◌^◌};
 
 use crate::{compare, lending, stored, tally, written};
 use format::{Counts, Decoded, Refusal};
+use std::io;
 
 // How far a case was compared, and whether all agreed.
 #[derive(Clone, Copy)]
@@ -182,12 +183,13 @@ fn case_held(
 }
 
 // A line about a case that differs.
-fn report(tally: &[usize], same: bool) {
+fn report(rt: &impl Print, tally: &[usize], same: bool) -> io::Result<()> {
     if !same {
-        printing::text(b"differs: list ");
-        printing::size(tally::at(tally, tally::LISTS));
-        printing::text(b"\n");
+        printing::text(rt, b"differs: list ")?;
+        printing::size(rt, tally::at(tally, tally::LISTS))?;
+        printing::text(rt, b"\n")?;
     }
+    Ok(())
 }
 
 // What a case adds to the tally; so many words are stored as written of its tables.
@@ -205,6 +207,7 @@ fn count_case(tally: &mut [usize], list: &[i32], at: usize, written: usize, same
 
 // The case at a place; answers the place of the next.
 fn replay_case(
+    rt: &impl Print,
     tally: &mut [usize],
     list: &[i32],
     at: usize,
@@ -217,7 +220,7 @@ fn replay_case(
     decisions: &mut [i32],
     actions: &mut [i32],
     scratch: &mut [i32],
-) -> usize {
+) -> io::Result<usize> {
     let words = stored::part(list, stored::behind(list, at, 10), answer_at(list, at));
     let answer = lending::decode(
         words, list, at, states, edges, ranges, sets, rules, modes, decisions, actions, scratch,
@@ -225,13 +228,14 @@ fn replay_case(
     let held = case_held(
         answer, list, at, states, edges, ranges, sets, rules, modes, decisions, actions, scratch,
     );
-    report(tally, held.same);
+    report(rt, tally, held.same)?;
     count_case(tally, list, at, held.written, held.same);
-    held.at
+    Ok(held.at)
 }
 
 // Every case of the block; a word of -1 fills it up behind the last.
 fn replay_into(
+    rt: &impl Print,
     tally: &mut [usize],
     list: &[i32],
     states: &mut [i32],
@@ -243,25 +247,26 @@ fn replay_into(
     decisions: &mut [i32],
     actions: &mut [i32],
     scratch: &mut [i32],
-) {
+) -> io::Result<()> {
     let mut at: usize = 0;
     while at < list.len() {
         if stored::word(list, at) == -1 {
-            return;
+            return Ok(());
         }
         let next = replay_case(
-            tally, list, at, states, edges, ranges, sets, rules, modes, decisions, actions, scratch,
-        );
+            rt, tally, list, at, states, edges, ranges, sets, rules, modes, decisions, actions,
+            scratch,
+        )?;
         if next <= at {
-            printing::text(b"the stored list can't be read on\n");
-            return;
+            return printing::text(rt, b"the stored list can't be read on\n");
         }
         at = next;
     }
+    Ok(())
 }
 
 // The tables are larger than any case lends.
-pub fn replay_block(tally: &mut [usize], list: &[i32]) {
+pub fn replay_block(rt: &impl Print, tally: &mut [usize], list: &[i32]) -> io::Result<()> {
     let mut states = [0i32; 16384];
     let mut edges = [0i32; 16384];
     let mut ranges = [0i32; 16384];
@@ -272,6 +277,7 @@ pub fn replay_block(tally: &mut [usize], list: &[i32]) {
     let mut actions = [0i32; 1024];
     let mut scratch = [0i32; 8192];
     replay_into(
+        rt,
         tally,
         list,
         &mut states,
@@ -283,5 +289,5 @@ pub fn replay_block(tally: &mut [usize], list: &[i32]) {
         &mut decisions,
         &mut actions,
         &mut scratch,
-    );
+    )
 }

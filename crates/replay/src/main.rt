@@ -12,43 +12,49 @@ mod stored;
 mod tally;
 mod written;
 
+use std::io;
+use std::io::Read;
+use std::rt::Files;
+
 // The bytes of one block, as words.
-fn replay_bytes(tally: &mut [usize], bytes: &[u8]) {
+fn replay_bytes(rt: &impl Print, tally: &mut [usize], bytes: &[u8]) -> io::Result<()> {
     let mut list = [0i32; 65536];
     let n = loading::words_of(bytes, &mut list);
-    cases::replay_block(tally, &list[..n]);
+    cases::replay_block(rt, tally, &list[..n])
 }
 
 // One block of the file; whether there was one.
-fn replay_next(tally: &mut [usize], fd: i32) -> bool {
+fn replay_next(rt: &impl Print, tally: &mut [usize], from: &mut impl Read) -> io::Result<bool> {
     let mut bytes = [0u8; 262144];
-    let n = io::read_full(fd, &mut bytes);
+    let n = loading::files::read_full(from, &mut bytes)?;
     if n == 0 {
-        return false;
+        return Ok(false);
     }
-    replay_bytes(tally, &bytes[..n]);
-    true
+    replay_bytes(rt, tally, &bytes[..n])?;
+    Ok(true)
 }
 
 // Nothing says that a file ends, so that the blocks are counted down from more than there are.
-fn replay_file(tally: &mut [usize], fd: i32) {
+fn replay_file(rt: &impl Print, tally: &mut [usize], from: &mut impl Read) -> io::Result<()> {
     let mut left: usize = 1000;
     while left > 0 {
-        if !replay_next(tally, fd) {
-            return;
+        if !replay_next(rt, tally, from)? {
+            return Ok(());
         }
         left -= 1;
     }
+    Ok(())
 }
 
-fn main() {
-    let fd = os::open_read(b"answers.words");
-    if fd < 0 {
-        printing::text(b"answers.words is missing\n");
-        return;
-    }
+fn run(rt: &(impl Print + Files)) -> io::Result<()> {
+    let Some(mut file) = loading::files::open(rt, b"answers.words") else {
+        return printing::text(rt, b"answers.words is missing\n");
+    };
     let mut tally = [0usize; 19];
-    replay_file(&mut tally, fd);
-    libc::close(fd);
-    tally::print(&tally);
+    replay_file(rt, &mut tally, &mut file)?;
+    tally::print(rt, &tally)
+}
+
+fn main(rt: HostRuntime) -> io::Result<()> {
+    run(&rt)
 }

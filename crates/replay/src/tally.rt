@@ -1,6 +1,8 @@
 // Numbers that are counted: 0 to 12 the lists by their stored answer, 0 for an acceptance; then those that differ, the words decoded,
 // the table words compared, all lists, those whose tables were written, and the words of these.
 
+use std::io;
+
 pub const DIFFER: usize = 13;
 
 pub const WORDS: usize = 14;
@@ -31,43 +33,42 @@ pub fn at(tally: &[usize], which: usize) -> usize {
 }
 
 // A line for each answer that occurs.
-fn line(tally: &[usize], number: usize) {
+fn line(rt: &impl Print, tally: &[usize], number: usize) -> io::Result<()> {
     let n = at(tally, number);
     if n == 0 {
-        return;
+        return Ok(());
     }
     if number == 0 {
-        printing::text(b"accepted ");
+        printing::text(rt, b"accepted ")?;
     } else {
-        printing::text(b"refused ");
-        printing::size(number);
-        printing::text(b": ");
+        printing::text(rt, b"refused ")?;
+        printing::size(rt, number)?;
+        printing::text(rt, b": ")?;
     }
-    printing::size(n);
-    printing::text(b"\n");
+    printing::size(rt, n)?;
+    printing::text(rt, b"\n")
 }
 
-fn lines(tally: &[usize]) {
-    let mut number: usize = 0;
-    while number < 13 {
-        line(tally, number);
-        number += 1;
+fn lines(rt: &impl Print, tally: &[usize]) -> io::Result<()> {
+    for number in 0..13 {
+        line(rt, tally, number)?;
     }
+    Ok(())
 }
 
 // A number behind its name.
-fn counted(name: &[u8], tally: &[usize], which: usize) {
-    printing::text(name);
-    printing::size(at(tally, which));
+fn counted(rt: &impl Print, name: &[u8], tally: &[usize], which: usize) -> io::Result<()> {
+    printing::text(rt, name)?;
+    printing::size(rt, at(tally, which))
 }
 
-pub fn print(tally: &[usize]) {
-    lines(tally);
-    counted(b"words decoded ", tally, WORDS);
-    counted(b", table words compared ", tally, COMPARED);
-    counted(b"\ntables written ", tally, WRITES);
-    counted(b", words ", tally, WRITTEN);
-    counted(b"\nlists ", tally, LISTS);
-    counted(b", that differ ", tally, DIFFER);
-    printing::text(b"\n");
+pub fn print(rt: &impl Print, tally: &[usize]) -> io::Result<()> {
+    lines(rt, tally)?;
+    counted(rt, b"words decoded ", tally, WORDS)?;
+    counted(rt, b", table words compared ", tally, COMPARED)?;
+    counted(rt, b"\ntables written ", tally, WRITES)?;
+    counted(rt, b", words ", tally, WRITTEN)?;
+    counted(rt, b"\nlists ", tally, LISTS)?;
+    counted(rt, b", that differ ", tally, DIFFER)?;
+    printing::text(rt, b"\n")
 }

@@ -3,6 +3,7 @@
 
 use crate::numbers::{Natural, Token};
 use crate::{errors, numbers};
+use std::io;
 
 // What is asked for: a rewrite of the file that the i-th argument names, the usage, or nothing, where a line has said what is wrong.
 #[derive(Clone, Copy)]
@@ -64,64 +65,65 @@ fn reached(file: usize, due: Due) -> Sofar {
 }
 
 // A line about an argument.
-fn wrong(before: &[u8], text: &[u8], behind: &[u8]) -> Due {
-    errors::text(b"rewrite: ");
-    errors::text(before);
-    errors::text(text);
-    errors::text(behind);
-    errors::text(b"\n");
-    Due::Wrong
+fn wrong(rt: &HostRuntime, before: &[u8], text: &[u8], behind: &[u8]) -> io::Result<Due> {
+    errors::text(rt, b"rewrite: ")?;
+    errors::text(rt, before)?;
+    errors::text(rt, text)?;
+    errors::text(rt, behind)?;
+    errors::text(rt, b"\n")?;
+    Ok(Due::Wrong)
 }
 
 // The i-th argument, where the file is due.
-fn take_file(file: usize, i: usize, text: &[u8]) -> Sofar {
+fn take_file(rt: &HostRuntime, file: usize, i: usize, text: &[u8]) -> io::Result<Sofar> {
     if text.len() == 0 {
-        return reached(
-            file,
-            wrong(
-                b"the file's name",
-                text,
-                b" is empty, or longer than 4096 bytes",
-            ),
-        );
+        let due = wrong(
+            rt,
+            b"the file's name",
+            text,
+            b" is empty, or longer than 4096 bytes",
+        )?;
+        return Ok(reached(file, due));
     }
     if file > 0 {
-        return reached(
-            file,
-            wrong(b"a second file, ", text, b": one is rewritten at a time"),
-        );
+        let due = wrong(
+            rt,
+            b"a second file, ",
+            text,
+            b": one is rewritten at a time",
+        )?;
+        return Ok(reached(file, due));
     }
-    reached(i, Due::Any)
+    Ok(reached(i, Due::Any))
 }
 
 // The i-th argument, where an option or the file is due.
-fn take_any(file: usize, i: usize, text: &[u8]) -> Sofar {
+fn take_any(rt: &HostRuntime, file: usize, i: usize, text: &[u8]) -> io::Result<Sofar> {
     if is_token(text) {
-        return reached(file, Due::Rule);
+        return Ok(reached(file, Due::Rule));
     }
     if is_help(text) {
-        return reached(file, Due::Help);
+        return Ok(reached(file, Due::Help));
     }
     if is_option(text) {
-        return reached(
-            file,
-            wrong(b"unknown option ", text, b"; rewrite --help says more"),
-        );
+        let due = wrong(rt, b"unknown option ", text, b"; rewrite --help says more")?;
+        return Ok(reached(file, due));
     }
-    take_file(file, i, text)
+    take_file(rt, file, i, text)
 }
 
-fn take_rule(text: &[u8]) -> Due {
+fn take_rule(rt: &HostRuntime, text: &[u8]) -> io::Result<Due> {
     match numbers::natural_of(text) {
-        Natural::Is(_) => Due::Type,
-        Natural::Not => wrong(b"--token: '", text, b"' is no rule, a number from 0 on"),
+        Natural::Is(_) => Ok(Due::Type),
+        Natural::Not => wrong(rt, b"--token: '", text, b"' is no rule, a number from 0 on"),
     }
 }
 
-fn take_type(text: &[u8]) -> Due {
+fn take_type(rt: &HostRuntime, text: &[u8]) -> io::Result<Due> {
     match numbers::token_of(text) {
-        Token::Is(_) => Due::Any,
+        Token::Is(_) => Ok(Due::Any),
         Token::Not => wrong(
+            rt,
             b"--token: '",
             text,
             b"' is no token type, a number from -2147483648 to 2147483647",
@@ -130,58 +132,56 @@ fn take_type(text: &[u8]) -> Due {
 }
 
 // The text of the i-th argument. Behind a call for help, and behind what is wrong, nothing counts.
-fn take_text(sofar: Sofar, i: usize, text: &[u8]) -> Sofar {
+fn take_text(rt: &HostRuntime, sofar: Sofar, i: usize, text: &[u8]) -> io::Result<Sofar> {
     let file = sofar.file;
     let due = sofar.due;
     match due {
-        Due::Any => take_any(file, i, text),
-        Due::Rule => reached(file, take_rule(text)),
-        Due::Type => reached(file, take_type(text)),
-        Due::Help => sofar,
-        Due::Wrong => sofar,
+        Due::Any => take_any(rt, file, i, text),
+        Due::Rule => Ok(reached(file, take_rule(rt, text)?)),
+        Due::Type => Ok(reached(file, take_type(rt, text)?)),
+        Due::Help => Ok(sofar),
+        Due::Wrong => Ok(sofar),
     }
 }
 
-fn take(sofar: Sofar, i: usize) -> Sofar {
-    let mut space = io::buffer();
-    let n = os::arg(i, &mut space);
-    take_text(sofar, i, &space[..n])
+fn take(rt: &HostRuntime, sofar: Sofar, i: usize) -> io::Result<Sofar> {
+    let mut space = [0u8; 4096];
+    let n = loading::arguments::get(rt, i, &mut space);
+    take_text(rt, sofar, i, &space[..n])
 }
 
-fn take_all() -> Sofar {
-    let count = os::arg_count();
+fn take_all(rt: &HostRuntime) -> io::Result<Sofar> {
+    let count = loading::arguments::count(rt);
     let mut sofar = Sofar {
         file: 0,
         due: Due::Any,
     };
-    let mut i: usize = 1;
-    while i < count {
-        sofar = take(sofar, i);
-        i += 1;
+    for i in 1..count {
+        sofar = take(rt, sofar, i)?;
     }
-    sofar
+    Ok(sofar)
 }
 
 // A line about the whole command line.
-fn lacking(what: &[u8]) -> Request {
-    wrong(what, b"", b"; rewrite --help says more");
-    Request::Nothing
+fn lacking(rt: &HostRuntime, what: &[u8]) -> io::Result<Request> {
+    wrong(rt, what, b"", b"; rewrite --help says more")?;
+    Ok(Request::Nothing)
 }
 
-pub fn asked() -> Request {
-    let sofar = take_all();
+pub fn asked(rt: &HostRuntime) -> io::Result<Request> {
+    let sofar = take_all(rt)?;
     let file = sofar.file;
     let due = sofar.due;
     match due {
         Due::Any => {
             if file == 0 {
-                return lacking(b"no file is named");
+                return lacking(rt, b"no file is named");
             }
-            Request::Rewrite(file)
+            Ok(Request::Rewrite(file))
         }
-        Due::Rule => lacking(b"--token: the rule and the token type are missing"),
-        Due::Type => lacking(b"--token: the token type is missing"),
-        Due::Help => Request::Help,
-        Due::Wrong => Request::Nothing,
+        Due::Rule => lacking(rt, b"--token: the rule and the token type are missing"),
+        Due::Type => lacking(rt, b"--token: the token type is missing"),
+        Due::Help => Ok(Request::Help),
+        Due::Wrong => Ok(Request::Nothing),
     }
 }

@@ -2,6 +2,7 @@
 
 use crate::tokens;
 use format::{Counts, Decoded, Refusal, Written};
+use std::io;
 
 // The number of words that were written; or why not: the decoder's refusal, the writer's, or a rule that is not listed, of which a line
 // has told.
@@ -15,6 +16,7 @@ pub enum Outcome {
 
 // The tables with the token types that are asked for, as words.
 fn write(
+    rt: &HostRuntime,
     c: Counts,
     states: &[i32],
     edges: &[i32],
@@ -25,9 +27,9 @@ fn write(
     decisions: &[i32],
     actions: &[i32],
     out: &mut [i32],
-) -> Outcome {
-    if !tokens::set(rules, c.rules) {
-        return Outcome::Unlisted;
+) -> io::Result<Outcome> {
+    if !tokens::set(rt, rules, c.rules)? {
+        return Ok(Outcome::Unlisted);
     }
     match gatehazel::write(
         states,
@@ -49,13 +51,13 @@ fn write(
         c.token,
         out,
     ) {
-        Written::Wrote(n) => Outcome::Wrote(n),
-        Written::Refused(r) => Outcome::Unwritten(r),
+        Written::Wrote(n) => Ok(Outcome::Wrote(n)),
+        Written::Refused(r) => Ok(Outcome::Unwritten(r)),
     }
 }
 
 // The tables have room for 32,768 records each, as many as a dialect can have words.
-pub fn rewrite(words: &[i32], out: &mut [i32]) -> Outcome {
+pub fn rewrite(rt: &HostRuntime, words: &[i32], out: &mut [i32]) -> io::Result<Outcome> {
     let mut states = [0i32; 262144];
     let mut edges = [0i32; 262144];
     let mut ranges = [0i32; 65536];
@@ -78,8 +80,8 @@ pub fn rewrite(words: &[i32], out: &mut [i32]) -> Outcome {
         &mut scratch,
     ) {
         Decoded::Accepted(c) => write(
-            c, &states, &edges, &ranges, &sets, &mut rules, &modes, &decisions, &actions, out,
+            rt, c, &states, &edges, &ranges, &sets, &mut rules, &modes, &decisions, &actions, out,
         ),
-        Decoded::Refused(r) => Outcome::Undecoded(r),
+        Decoded::Refused(r) => Ok(Outcome::Undecoded(r)),
     }
 }

@@ -1,16 +1,16 @@
 // One line on standard error, piece by piece.
 
-use libc::STDERR_FILENO;
+use std::io;
 
-pub fn text(piece: &[u8]) {
-    printing::onto::text(STDERR_FILENO, piece);
+pub fn text(rt: &HostRuntime, piece: &[u8]) -> io::Result<()> {
+    printing::text(&rt.stderr(), piece)
 }
 
-pub fn size(n: usize) {
-    printing::onto::size(STDERR_FILENO, n);
+pub fn size(rt: &HostRuntime, n: usize) -> io::Result<()> {
+    printing::size(&rt.stderr(), n)
 }
 
 // A whole line about the file, or about an argument.
-pub fn line(about: &[u8], why: &[u8]) {
-    printing::onto::line(STDERR_FILENO, about, why);
+pub fn line(rt: &HostRuntime, about: &[u8], why: &[u8]) -> io::Result<()> {
+    printing::onto::line(&rt.stderr(), about, why)
 }

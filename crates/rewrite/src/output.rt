@@ -1,11 +1,9 @@
 // Words as bytes on standard output, four to a word, the least first, as crate `loading` reads them.
 
 ghost use Rattle.std.specs.Prelude.{◌≡◌, ℕ, ◌+◌, ◌*◌, ◌≤◌, ◌<◌, pos, length, get_or};
-ghost use Rattle.io.specs.Counts.{IsPrefixLen};
+ghost use Rattle.rewrite.specs.Counts.{IsPrefixLen};
 ghost use Rattle.loading.specs.Bytes.{signed_of, word_at};
 ghost use Rattle.rewrite.specs.Spelled.{spelled};
-
-use libc::STDOUT_FILENO;
 
 // The 32 bits of a word, as a number.
 fn unsigned_of(x: i32) -> u32
@@ -52,8 +50,8 @@ fn bytes_of(words: &[i32], out: &mut [u8]) -> usize
 }
 
 // Whether all of the words, 65,536 at most, were put out.
-pub fn put(words: &[i32]) -> bool {
+pub fn put(rt: &impl Print, words: &[i32]) -> bool {
     let mut bytes = [0u8; 262144];
     let n = bytes_of(words, &mut bytes);
-    io::write_all(STDOUT_FILENO, &bytes[..n])
+    rt.write_all(&bytes[..n]).is_ok()
 }

@@ -3,35 +3,40 @@
 use crate::numbers::{Natural, Token};
 use crate::{arguments, errors, numbers};
 use format::rule;
+use std::io;
+use std::rt::Env;
 
 // Whether the i-th argument is the option.
-fn is_option(i: usize) -> bool {
-    let mut space = io::buffer();
-    let n = os::arg(i, &mut space);
+fn is_option(rt: &impl Env, i: usize) -> bool {
+    let mut space = [0u8; 4096];
+    let n = loading::arguments::get(rt, i, &mut space);
     arguments::is_token(&space[..n])
 }
 
-fn rule_of(i: usize) -> Natural {
-    let mut space = io::buffer();
-    let n = os::arg(i, &mut space);
+fn rule_of(rt: &impl Env, i: usize) -> Natural {
+    let mut space = [0u8; 4096];
+    let n = loading::arguments::get(rt, i, &mut space);
     numbers::natural_of(&space[..n])
 }
 
-fn token_of(i: usize) -> Token {
-    let mut space = io::buffer();
-    let n = os::arg(i, &mut space);
+fn token_of(rt: &impl Env, i: usize) -> Token {
+    let mut space = [0u8; 4096];
+    let n = loading::arguments::get(rt, i, &mut space);
     numbers::token_of(&space[..n])
 }
 
 // The line about a rule that the dialect doesn't have.
-fn unlisted(i: usize, listed: usize) {
-    let mut space = io::buffer();
-    let n = os::arg(i, &mut space);
-    errors::text(b"rewrite: --token: rule ");
-    errors::text(&space[..n]);
-    errors::text(b" is not listed; rules of this dialect, numbered from 0: ");
-    errors::size(listed);
-    errors::text(b"\n");
+fn unlisted(rt: &HostRuntime, i: usize, listed: usize) -> io::Result<()> {
+    let mut space = [0u8; 4096];
+    let n = loading::arguments::get(rt, i, &mut space);
+    errors::text(rt, b"rewrite: --token: rule ")?;
+    errors::text(rt, &space[..n])?;
+    errors::text(
+        rt,
+        b" is not listed; rules of this dialect, numbered from 0: ",
+    )?;
+    errors::size(rt, listed)?;
+    errors::text(rt, b"\n")
 }
 
 // The table has a record for every rule that is listed.
@@ -46,41 +51,45 @@ fn store(rules: &mut [i32], n: usize, token: i32) {
 }
 
 // The rule that one argument is, and the token type that another is; whether there is such a rule. That both are numbers was seen before.
-fn set_one(rules: &mut [i32], listed: usize, rule_at: usize, type_at: usize) -> bool {
-    let Natural::Is(n) = rule_of(rule_at) else {
-        return false;
+fn set_one(
+    rt: &HostRuntime,
+    rules: &mut [i32],
+    listed: usize,
+    rule_at: usize,
+    type_at: usize,
+) -> io::Result<bool> {
+    let Natural::Is(n) = rule_of(rt, rule_at) else {
+        return Ok(false);
     };
-    let Token::Is(token) = token_of(type_at) else {
-        return false;
+    let Token::Is(token) = token_of(rt, type_at) else {
+        return Ok(false);
     };
     if n >= listed {
-        unlisted(rule_at, listed);
-        return false;
+        unlisted(rt, rule_at, listed)?;
+        return Ok(false);
     }
     store(rules, n, token);
-    true
+    Ok(true)
 }
 
 // An argument that may be a token type: it is, if the last but one before it is the option.
-fn set_at(rules: &mut [i32], listed: usize, i: usize) -> bool {
+fn set_at(rt: &HostRuntime, rules: &mut [i32], listed: usize, i: usize) -> io::Result<bool> {
     if i < 3 {
-        return true;
+        return Ok(true);
     }
-    if !is_option(i - 2) {
-        return true;
+    if !is_option(rt, i - 2) {
+        return Ok(true);
     }
-    set_one(rules, listed, i - 1, i)
+    set_one(rt, rules, listed, i - 1, i)
 }
 
 // All of them; whether all the rules are listed.
-pub fn set(rules: &mut [i32], listed: usize) -> bool {
-    let count = os::arg_count();
-    let mut i: usize = 3;
-    while i < count {
-        if !set_at(rules, listed, i) {
-            return false;
+pub fn set(rt: &HostRuntime, rules: &mut [i32], listed: usize) -> io::Result<bool> {
+    let count = loading::arguments::count(rt);
+    for i in 3..count {
+        if !set_at(rt, rules, listed, i)? {
+            return Ok(false);
         }
-        i += 1;
     }
-    true
+    Ok(true)
 }

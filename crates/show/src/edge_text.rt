@@ -1,6 +1,7 @@
 // One edge, as a person reads it: what it takes, and where it leads. Document 01, "Edge types" and "Mark".
 
 use crate::{records, symbols};
+use std::io;
 
 // How many ranges of a set an edge's line shows.
 const MOST: usize = 4;
@@ -11,81 +12,105 @@ pub fn set_of<'a>(sets: &[i32], ranges: &'a [i32], set: i32) -> &'a [i32] {
 }
 
 // A set by its ranges.
-fn over_set(before: &[u8], set: i32, sets: &[i32], ranges: &[i32]) {
-    printing::text(before);
-    symbols::ranges(set_of(sets, ranges, set), MOST, true);
-    printing::text(b"}");
+fn over_set(
+    rt: &impl Print,
+    before: &[u8],
+    set: i32,
+    sets: &[i32],
+    ranges: &[i32],
+) -> io::Result<()> {
+    printing::text(rt, before)?;
+    symbols::ranges(rt, set_of(sets, ranges, set), MOST, true)?;
+    printing::text(rt, b"}")
 }
 
 // A name and a number.
-fn numbered(name: &[u8], n: i32) {
-    printing::text(name);
-    printing::number(words::wide(n));
+fn numbered(rt: &impl Print, name: &[u8], n: i32) -> io::Result<()> {
+    printing::text(rt, name)?;
+    printing::number(rt, words::wide(n))
 }
 
 // Types 3, 4, 6 and 10: p and q are numbers of a rule, a predicate, an action, a precedence.
-fn counted(kind: i32, p: i32, q: i32) {
+fn counted(rt: &impl Print, kind: i32, p: i32, q: i32) -> io::Result<()> {
     match kind {
-        3 => numbered(b"rule ", p),
+        3 => numbered(rt, b"rule ", p),
         4 => {
-            numbered(b"predicate ", q);
-            numbered(b" of rule ", p);
+            numbered(rt, b"predicate ", q)?;
+            numbered(rt, b" of rule ", p)
         }
         6 => {
-            numbered(b"action ", q);
-            numbered(b" of rule ", p);
+            numbered(rt, b"action ", q)?;
+            numbered(rt, b" of rule ", p)
         }
-        _ => numbered(b"precedence ", p),
+        _ => numbered(rt, b"precedence ", p),
     }
 }
 
 // What the edge takes.
-pub fn label(edges: &[i32], edge: usize, sets: &[i32], ranges: &[i32]) {
+pub fn label(
+    rt: &impl Print,
+    edges: &[i32],
+    edge: usize,
+    sets: &[i32],
+    ranges: &[i32],
+) -> io::Result<()> {
     let kind = records::word(edges, 8, edge, 0);
     let p = records::word(edges, 8, edge, 3);
     let q = records::word(edges, 8, edge, 4);
     match kind {
-        1 => printing::text(b"epsilon"),
-        2 => symbols::symbols(p, q),
-        5 => symbols::symbol(p),
-        7 => over_set(b"set {", p, sets, ranges),
-        8 => over_set(b"not set {", p, sets, ranges),
-        9 => printing::text(b"any"),
-        _ => counted(kind, p, q),
+        1 => printing::text(rt, b"epsilon"),
+        2 => symbols::symbols(rt, p, q),
+        5 => symbols::symbol(rt, p),
+        7 => over_set(rt, b"set {", p, sets, ranges),
+        8 => over_set(rt, b"not set {", p, sets, ranges),
+        9 => printing::text(rt, b"any"),
+        _ => counted(rt, kind, p, q),
     }
 }
 
 // A rule edge's follow state, and the marks.
-pub fn remarks(edges: &[i32], edge: usize) {
+pub fn remarks(rt: &impl Print, edges: &[i32], edge: usize) -> io::Result<()> {
     if records::word(edges, 8, edge, 0) == 3 {
-        numbered(b", then ", records::word(edges, 8, edge, 4));
+        numbered(rt, b", then ", records::word(edges, 8, edge, 4))?;
     }
     match records::word(edges, 8, edge, 6) {
-        1 => printing::text(b" derived"),
-        2 => printing::text(b" tail call"),
-        _ => {}
+        1 => printing::text(rt, b" derived"),
+        2 => printing::text(rt, b" tail call"),
+        _ => Ok(()),
     }
 }
 
 // `    'a'..'z' -> 12`
-pub fn line(edges: &[i32], edge: usize, sets: &[i32], ranges: &[i32]) {
-    printing::text(b"    ");
-    label(edges, edge, sets, ranges);
-    numbered(b" -> ", records::word(edges, 8, edge, 2));
-    remarks(edges, edge);
-    printing::text(b"\n");
+pub fn line(
+    rt: &impl Print,
+    edges: &[i32],
+    edge: usize,
+    sets: &[i32],
+    ranges: &[i32],
+) -> io::Result<()> {
+    printing::text(rt, b"    ")?;
+    label(rt, edges, edge, sets, ranges)?;
+    numbered(rt, b" -> ", records::word(edges, 8, edge, 2))?;
+    remarks(rt, edges, edge)?;
+    printing::text(rt, b"\n")
 }
 
 // The same as an arrow of the graph: a derived edge is dashed, a tail call bold.
-pub fn arrow(edges: &[i32], edge: usize, sets: &[i32], ranges: &[i32]) {
-    numbered(b"  s", records::word(edges, 8, edge, 1));
-    numbered(b" -> s", records::word(edges, 8, edge, 2));
-    printing::text(b" [label=\"");
-    label(edges, edge, sets, ranges);
-    remarks(edges, edge);
+pub fn arrow(
+    rt: &impl Print,
+    edges: &[i32],
+    edge: usize,
+    sets: &[i32],
+    ranges: &[i32],
+) -> io::Result<()> {
+    numbered(rt, b"  s", records::word(edges, 8, edge, 1))?;
+    numbered(rt, b" -> s", records::word(edges, 8, edge, 2))?;
+    printing::text(rt, b" [label=\"")?;
+    label(rt, edges, edge, sets, ranges)?;
+    remarks(rt, edges, edge)?;
     match records::word(edges, 8, edge, 6) {
-        1 => printing::text(b"\", style=dashed];\n"),
-        2 => printing::text(b"\", style=bold];\n"),
-        _ => printing::text(b"\"];\n"),
+        1 => printing::text(rt, b"\", style=dashed];\n"),
+        2 => printing::text(rt, b"\", style=bold];\n"),
+        _ => printing::text(rt, b"\"];\n"),
     }
 }

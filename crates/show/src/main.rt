@@ -13,35 +13,44 @@ mod page;
 mod records;
 mod symbols;
 
-fn usage() {
+use std::io;
+use std::rt::{Env, Files};
+
+fn usage(rt: &impl Print) -> io::Result<()> {
     printing::text(
+        rt,
         b"show FILE..        print each dialect: counts, rules, modes, decisions, actions, sets, states and their edges\n",
-    );
-    printing::text(b"show --dot FILE..  print each as a Graphviz graph\n");
-    printing::text(b"A dialect is a file of little-endian 32-bit words, at most 131072 bytes.\n");
+    )?;
+    printing::text(rt, b"show --dot FILE..  print each as a Graphviz graph\n")?;
+    printing::text(
+        rt,
+        b"A dialect is a file of little-endian 32-bit words, at most 131072 bytes.\n",
+    )
 }
 
 // One word of the command line: a file is shown. The answer is whether graphs are asked for from here on.
-fn take_word(i: usize, graph: bool) -> bool {
-    let mut name = io::buffer();
-    let n = os::arg(i, &mut name);
+fn take_word(rt: &(impl Print + Files + Env), i: usize, graph: bool) -> io::Result<bool> {
+    let mut name = [0u8; 4096];
+    let n = loading::arguments::get(rt, i, &mut name);
     if names::is_dot(&name[..n]) {
-        return true;
+        return Ok(true);
     }
-    files::show(&name[..n], graph);
-    graph
+    files::show(rt, &name[..n], graph)?;
+    Ok(graph)
 }
 
-fn main() {
-    let count = os::arg_count();
+fn run(rt: &(impl Print + Files + Env)) -> io::Result<()> {
+    let count = loading::arguments::count(rt);
     if count < 2 {
-        usage();
-        return;
+        return usage(rt);
     }
     let mut graph = false;
-    let mut i: usize = 1;
-    while i < count {
-        graph = take_word(i, graph);
-        i += 1;
+    for i in 1..count {
+        graph = take_word(rt, i, graph)?;
     }
+    Ok(())
+}
+
+fn main(rt: HostRuntime) -> io::Result<()> {
+    run(&rt)
 }
