@@ -38,30 +38,25 @@ FORMAT = os.path.join(os.path.dirname(os.path.abspath(__file__)), "..", "crates"
 
 # The definitions' names that the theorems use, by module. What they rest on is found in the files.
 USED = {
-    "Reading": ["Table", *TABLES], "Decode": ["Answer", "decoded"], "Questions": ["matches", "nthEdge", "setPart", "partOf"],
+    "Reading": ["Table", *TABLES], "Decode": ["Answer", "decoded"], "Questions": ["matches", "nth_edge", "set_part", "part_of"],
     "declared.Decoded": ["Decoded"], "declared.Matching": ["Matching"], "declared.NthEdge": ["NthEdge"],
 }
 
 PREAMBLE = """-- What the definitions compute, against what the oracle said: made by oracle/compare.py.
-use mathlib.Core.Path.{_≡_, refl}
-use mathlib.Core.Bool.{true, false}
-use mathlib.Core.List.{List, [], _∷_}
-use Prim.Native.Nat.{ℕ, _-_}
-use lib.IntN.{ℤ, pos, negsuc}
-use lib.ListN.{replicate}
-use Rattle·format.specs.declared.Decoded.the-variants as D
-use Rattle·format.specs.declared.Matching.the-variants as M
-use Rattle·format.specs.declared.NthEdge.the-variants as E
+use Rattle.std.specs.Prelude.{◌≡◌, refl, true, false, List, [], ◌∷◌, ℕ, ◌-◌, ℤ, pos, negsuc, replicate}
+use Rattle.format.specs.declared.Decoded.TheVariants as D
+use Rattle.format.specs.declared.Matching.TheVariants as M
+use Rattle.format.specs.declared.NthEdge.TheVariants as E
 @uses
 
-infixr 67 _▸_
-abbrev _▸_ : ℕ → List ℤ → List ℤ
-_▸_ n l = pos n ∷ l
+infixr 67 ◌▸◌
+abbrev ◌▸◌ : ℕ → List ℤ → List ℤ
+◌▸◌ n l = pos n ∷ l
 
 -- A negative word: the number without its sign.
-infixr 67 _◂_
-abbrev _◂_ : ℕ → List ℤ → List ℤ
-_◂_ n l = negsuc (n - 1) ∷ l
+infixr 67 ◌◂◌
+abbrev ◌◂◌ : ℕ → List ℤ → List ℤ
+◌◂◌ n l = negsuc (n - 1) ∷ l
 
 abbrev noughts : ℕ → List ℤ
 noughts n = replicate n (pos 0)
@@ -77,7 +72,7 @@ abbrev outcome : Decoded → List (List ℤ) → Result
 outcome d l = record { told = d; left = l }
 
 abbrev computed : (Table → ℕ) → List ℤ → ℕ → Result
-computed lent ws at = let a = decoded lent ws at in outcome (a .told) (@left [])
+computed lent ws at = let a = decoded lent ws at in outcome a.told (@left [])
 
 abbrev accepted : ℕ → ℤ → ℕ → ℕ → ℕ → ℕ → ℕ → ℕ → ℕ → ℕ → ℕ → Decoded
 accepted w t a b c d e f g h i =
@@ -93,7 +88,7 @@ matched es c ls n rs m e lo hi (v ∷ vs) = matches es c ls n rs m e v lo hi ∷
 
 abbrev nths : List ℤ → ℕ → List ℤ → ℕ → ℤ → List ℤ → List NthEdge
 nths ss n es m s [] = []
-nths ss n es m s (k ∷ ks) = nthEdge ss n es m s k ∷ nths ss n es m s ks
+nths ss n es m s (k ∷ ks) = nth_edge ss n es m s k ∷ nths ss n es m s ks
 
 """
 
@@ -132,9 +127,9 @@ class Antt:
         letters = "abcdefghi"
         self.preamble = PREAMBLE
         for mark, lines in (
-                ("@uses", ["use Rattle·format.specs.%s.{%s}" % (module, ", ".join(used)) for module, used in uses.items() if used]),
+                ("@uses", ["use Rattle.format.specs.%s.{%s}" % (module, ", ".join(used)) for module, used in uses.items() if used]),
                 ("@sizes", ["sizes %s %s = %s" % (" ".join(letters), table, letter) for table, letter in zip(TABLES, letters)]),
-                ("@left", [" ".join("a .left %s ∷" % table for table in TABLES)])):
+                ("@left", [" ".join("a.left %s ∷" % table for table in TABLES)])):
             self.preamble = self.preamble.replace(mark, "\n".join(lines))
         holds, said = self.run([])
         if not holds:
@@ -151,7 +146,7 @@ class Antt:
         self.runs += 1
         texts = ["%s : %s ≡ %s\n%s\n%s = refl\n" % (name, left, right, self.unfolding, name) for name, left, right in theorems]
         self.write("crates/compared/specs/Compared.antt", self.preamble + "\n".join(texts))
-        done = subprocess.run(["rt", "check", "compared"], cwd=self.folder, capture_output=True, text=True, check=False)
+        done = subprocess.run(["rt", "check"], cwd=os.path.join(self.folder, "crates", "compared"), capture_output=True, text=True, check=False)
         return done.returncode == 0, done.stdout + done.stderr
 
     def differing(self, cases):
@@ -318,7 +313,7 @@ def questions(told, rng):
         for number, ranges in enumerate(one.kept):
             yield Question(
                 one, "set's part", 1, "set %d" % number,
-                "partOf %s (setPart %s %s (pos %d))" % (listed(flat(one.tables["Ranges"])), table["Sets"], table["Ranges"], number),
+                "part_of %s (set_part %s %s (pos %d))" % (listed(flat(one.tables["Ranges"])), table["Sets"], table["Ranges"], number),
                 listed(flat(ranges)))
 
 
