@@ -4,15 +4,15 @@
 # Needs rt and rustc. The archive is built anew where a source is newer than it. A run takes about a minute; let the machine rest meanwhile.
 set -eu
 cd "$(dirname "$0")/.."
-archive=target/staticlib/libcapi.a
+archive=crates/capi/out/libcapi.a
 if [ ! -f "$archive" ] || [ -n "$(find crates -name '*.rt' -newer "$archive")" ]; then
-    rt staticlib capi > /dev/null 2>&1 || { echo 'figures: rt staticlib capi failed'; exit 1; }
+    (cd crates/capi && rt lib > /dev/null 2>&1) || { echo 'figures: rt lib failed in crates/capi'; exit 1; }
 fi
 [ -f oracle/build/liboracle.rlib ] || oracle/build.sh
 out=target/beside
 mkdir -p "$out"
 flags='-C opt-level=3'
-rustc --edition 2024 $flags -D warnings -L target/staticlib --extern oracle=oracle/build/liboracle.rlib -o "$out/figures" beside/figures.rs
+rustc --edition 2024 $flags -D warnings -L crates/capi/out --extern oracle=oracle/build/liboracle.rlib -o "$out/figures" beside/figures.rs
 FIGURES_RUSTC=$(rustc --version)
 FIGURES_KIT=$(rt version)
 FIGURES_FLAGS='rustc -O (oracle/build.sh)'

@@ -3,12 +3,13 @@
 # Needs rt, a C compiler and rustc. Run it at the repository's root.
 set -eu
 cd "$(dirname "$0")/.."
-rt staticlib capi > /dev/null 2>&1 || { echo 'examples: rt staticlib capi failed'; exit 1; }
+(cd crates/capi && rt lib > /dev/null 2>&1) || { echo 'examples: rt lib failed in crates/capi'; exit 1; }
+archive=crates/capi/out/libcapi.a
 out=target/examples
 mkdir -p "$out"
-cc -std=c99 -Wall -Wextra -Iinclude -o "$out/walk" examples/c/walk.c target/staticlib/libcapi.a
-cc -std=c99 -Wall -Wextra -Iinclude -o "$out/patch" examples/c/patch.c target/staticlib/libcapi.a
-rustc --edition 2024 -O -L target/staticlib -o "$out/matching" examples/rust/matching.rs
+cc -std=c99 -Wall -Wextra -Iinclude -o "$out/walk" examples/c/walk.c "$archive"
+cc -std=c99 -Wall -Wextra -Iinclude -o "$out/patch" examples/c/patch.c "$archive"
+rustc --edition 2024 -O -L crates/capi/out -o "$out/matching" examples/rust/matching.rs
 head -c 1927 samples/xpathlexer.atn > "$out/ragged" # a byte short
 head -c 100 samples/xpathlexer.atn > "$out/cut" # inside state 10
 {

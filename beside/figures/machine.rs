@@ -27,7 +27,7 @@ pub fn lines() -> String {
         format!("processor   {}, family {} model {}, {cores} cores, {} L3", cpuinfo("model name"), cpuinfo("cpu family"), cpuinfo("model\t"), cpuinfo("cache size")),
         format!("system      {}, {}", after("/etc/os-release", "PRETTY_NAME"), told("FIGURES_LIBC")),
         format!("the Rust    {}, {}", told("FIGURES_RUSTC"), told("FIGURES_FLAGS")),
-        format!("ours        {}, rt staticlib", told("FIGURES_KIT")),
+        format!("ours        {}, rt lib", told("FIGURES_KIT")),
         format!("load        {} as the run began", load.split(' ').next().unwrap_or_default()),
     ]
     .map(|line| line + "\n")

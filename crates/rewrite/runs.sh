@@ -1,7 +1,7 @@
 #!/bin/sh
-# Runs that `rt ci` can't hold: it runs a program once, and looks at standard output alone. Here target/bin/rewrite is run again and again, on
+# Runs that `rt ci` can't hold: it runs a program once, and looks at standard output alone. Here out/rewrite is run again and again, on
 # the files of crates/show/data and on the samples; what it puts out, as decimal words, and what it says on standard error are held to the
-# file `runs` beside this script. `rt check rewrite` builds the program. `runs.sh --print` prints the runs instead.
+# file `runs` beside this script. `rt ci`, or `rt run` in this folder, builds the program. `runs.sh --print` prints the runs instead.
 cd "$(dirname "$0")/../.." || exit 1
 top=$PWD
 room=$(mktemp -d) || exit 1
@@ -11,7 +11,7 @@ run() {
     printf '$ rewrite'
     for word; do printf ' %s' "${word:-''}"; done
     echo
-    "$top/target/bin/rewrite" "$@" > "$room/out" 2> "$room/err"
+    "$top/crates/rewrite/out/rewrite" "$@" > "$room/out" 2> "$room/err"
     od -An -v -td4 -w40 "$room/out" | tr -s ' ' | sed 's/^ //'
     cat "$room/err"
 }
@@ -19,7 +19,7 @@ run() {
 # A dialect that ANTLR wrote is in the fixed form.
 sample() {
     echo "\$ rewrite $1 | cmp - $1"
-    "$top/target/bin/rewrite" "$1" | cmp - "$1" && echo same
+    "$top/crates/rewrite/out/rewrite" "$1" | cmp - "$1" && echo same
 }
 
 runs() {
@@ -39,7 +39,7 @@ runs() {
     run
     run ''
     echo '$ rewrite --help'
-    "$top/target/bin/rewrite" --help
+    "$top/crates/rewrite/out/rewrite" --help
     run missing.atn
     run .
     run long.atn
@@ -50,7 +50,7 @@ runs() {
     run mark.atn
     run empty.atn
     echo '$ rewrite whole.atn > /dev/full'
-    "$top/target/bin/rewrite" whole.atn 2>&1 > /dev/full
+    "$top/crates/rewrite/out/rewrite" whole.atn 2>&1 > /dev/full
     cd "$top/samples" || exit 1
     for f in *.atn; do sample "$f"; done
 }

@@ -1,5 +1,5 @@
 -- `compare::holds_words` meets its contract: what is left to compare decides, from the last word down. Assumes nothing.
-use Rattle.std.proofs.Common.{◌≡◌, refl, sym, ap, ap₂, ◌∙◌, ℕ, zero, suc, ◌-◌, ◌≤◌, ◌<◌, arith, List, Bool, true, false, ◌&&◌, ℤ, length, le-leb}
+use Rattle.std.proofs.Common.{◌≡◌, refl, sym, ap, ap₂, ◌∙◌, ℕ, zero, suc, ◌-◌, ◌<◌, arith, List, Bool, true, false, ◌&&◌, ℤ, length, le-leb}
 use Rattle.format.specs.Sections.{same}
 use Rattle.words.proofs.Signs.{back32}
 use Rattle.replay.specs.Compare.{word_at, agree}
