@@ -1,7 +1,9 @@
 // A file's bytes, as far as there is room for them. A clause can name the bytes of a reader that says which it has; a file of the system
 // doesn't.
 
+ghost use Rattle.std.specs.Prelude.{◌<◌, length, take, IfOk};
 ghost use Rattle.std.specs.Io.{ReadsAtMost};
+ghost use Rattle.std.specs.Io.KnownBytes.{Consumes, IsAtEnd};
 
 use std::io;
 use std::io::Read;
@@ -17,7 +19,9 @@ pub fn open<R: Files>(rt: &R, name: &[u8]) -> Option<R::File> {
 
 // Puts bytes at the start of `out` until it is full or there are no more, and answers how many.
 pub fn read_full<R: Read>(from: &mut R, out: &mut [u8]) -> io::Result<usize>
-    ensures { ReadsAtMost result out.new }
+    ensures counted { ReadsAtMost result out.new }
+    ensures bytes { IfOk result (λ n. Consumes (R.remaining from.old) (R.remaining from.new) (take n out.new)) }
+    ensures end { IfOk result (λ n. n < length out.new → IsAtEnd (R.remaining from.new)) }
 {
     let mut done = 0;
     while done < out.len() {

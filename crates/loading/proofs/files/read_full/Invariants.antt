@@ -1,8 +1,10 @@
-use Rattle.std.proofs.Common.{length, ◌-◌, ◌≤◌}
+-- What was put into `out` so far is what the reader gave.
+use Rattle.std.proofs.Common.{length, ◌-◌, ◌≤◌, ◌≡◌, take}
+use Rattle.std.specs.Io.KnownBytes.{Consumes}
 use Rattle.loading.proofs.files.read_full.Given as goal
 
 abbrev pub invariant-loop-done : goal.invariant-loop-done
-invariant-loop-done g l = l.done ≤ length l.out
+invariant-loop-done g l = (length l.out ≡ length l.initial.out) × (l.done ≤ length l.out) × Consumes (g.R.Read.remaining l.initial.from) (g.R.Read.remaining l.from) (take l.done l.out)
 
 abbrev pub decreases-loop-done : goal.decreases-loop-done
 decreases-loop-done g l = length l.initial.out - l.done
