@@ -1,6 +1,6 @@
 /* Gatehazel: decodes a serialized ANTLR lexer dialect into lent tables, writes such tables back as words, and answers questions about them.
  *
- * Link crates/capi/out/libcapi.a (`rt lib` in crates/capi), x86-64.
+ * Link crates/capi/out/libcapi.a (`rt lib` in crates/capi), for x86-64-v2 processors.
  *
  * Memory. Every pointer is lent for the length of the call and never kept; the caller owns all memory. Lengths are in elements, not bytes.
  * Pointers must not be null and must be aligned, also where the length is 0 (any aligned address will do); slices that are written must not
