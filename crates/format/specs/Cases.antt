@@ -1,15 +1,14 @@
 -- Document 01, "Cases on each side": P1 to P11 and the whole case, as one table with a single proof; and a case for each of
 -- "Shortcuts that read well and are wrong", which a definition by that shortcut would fail; and
 -- refusals of second records (document 02, R-2).
-use Rattle.std.specs.Prelude.{◌≡◌, refl, List, [], ◌∷◌, ◌++◌, ℕ, ℤ, pos}
+use Rattle.std.specs.Prelude.{◌≡◌, refl, List, [], ◌∷◌, ◌++◌, ℕ, ℤ, pos, Ok, Err}
 use Rattle.format.specs.Reading.{Table, States, Edges, Ranges, Sets, Rules, Modes, Decisions, Actions, Scratch, refusal, spot, run, times, get, index, count, ◌>>=◌}
 use Rattle.format.specs.Sets.{add, keep_onto}
 use Rattle.format.specs.Sections.{none, version, grammar, linked, following, state, states, named, flags, rule, rules, modes, interval, flagged, set, sets_from, sets, test_a, test_b, edge, edges, decisions, action, actions}
 use Rattle.format.specs.Links.{derived, decides, safe, tail}
 use Rattle.format.specs.Tables.{nine, zeros, list_of, records, table, counts_of}
 use Rattle.format.specs.Decode.{returning, dialect, decoded}
-use Rattle.format.specs.declared.Decoded.{Decoded}
-use Rattle.format.specs.declared.Decoded.TheVariants as D
+use Rattle.format.specs.Results.{Decoded}
 
 -- ---- how a case is written
 
@@ -31,11 +30,11 @@ abbrev ◌▸◌ : ℕ → List ℤ → List ℤ
 -- Words read, max token type, states, edges, derived edges, ranges, sets, rules, modes, decisions, actions.
 abbrev accepted : ℕ → ℕ → ℕ → ℕ → ℕ → ℕ → ℕ → ℕ → ℕ → ℕ → ℕ → Decoded
 accepted w t st ed dd ra se ru mo de ac =
-    D.Accepted (record { words = w; token = pos t; states = st; edges = ed; derived = dd; ranges = ra; sets = se; rules = ru; modes = mo; decisions = de; actions = ac })
+    Ok (record { words = w; token = pos t; states = st; edges = ed; derived = dd; ranges = ra; sets = se; rules = ru; modes = mo; decisions = de; actions = ac })
 
 -- Number, field, record, place, value.
 abbrev refused : ℕ → ℕ → ℕ → ℕ → ℕ → Decoded
-refused n f i p v = D.Refused (refusal n (spot f i) p (pos v))
+refused n f i p v = Err (refusal n (spot f i) p (pos v))
 
 abbrev nine_of : {A : Type 0} → (Table → A) → List A
 nine_of f = f States ∷ f Edges ∷ f Ranges ∷ f Sets ∷ f Rules ∷ f Modes ∷ f Decisions ∷ f Actions ∷ f Scratch ∷ []
@@ -257,7 +256,7 @@ cases =
     ∷
     second (0 ▸ 0 ▸ 0 ▸ 2 ▸ 0 ▸ 0 ▸ 0 ▸ []) (refused 1 15 1 10 0)
     ∷
-    second (0 ▸ 0 ▸ 0 ▸ 2 ▸ 0 ▸ 0 ▸ none ∷ []) (D.Refused (refusal 2 (spot 14 1) 9 none))
+    second (0 ▸ 0 ▸ 0 ▸ 2 ▸ 0 ▸ 0 ▸ none ∷ []) (Err (refusal 2 (spot 14 1) 9 none))
     ∷
     -- "Fields 19 to 22 carry their set": its count, its flag, its room, the stop of its first interval, the start of its third
     second (0 ▸ 0 ▸ 0 ▸ 0 ▸ 0 ▸ 2 ▸ 0 ▸ 0 ▸ []) (refused 1 19 1 11 0)

@@ -1,11 +1,10 @@
 -- Document 01: the whole of a decode.
-use Rattle.std.specs.Prelude.{List, ℕ, ◌+◌, ◌-◌, ℤ, length}
+use Rattle.std.specs.Prelude.{List, ℕ, ◌+◌, ◌-◌, ℤ, length, Ok, Err}
 use Rattle.format.specs.Reading.{Table, Edges, Outcome, ok, no, Prog, done, need, here, run, spot, get, ◌>>=◌, ◌>>◌}
 use Rattle.format.specs.Sections.{Edge, State, Read, version, grammar, states, flags, rules, modes, sets, edges, decisions, actions}
 use Rattle.format.specs.Links.{derived}
 use Rattle.format.specs.Tables.{room, table, zeros, counts_of}
-use Rattle.format.specs.declared.Decoded.{Decoded}
-use Rattle.format.specs.declared.Decoded.TheVariants as D
+use Rattle.format.specs.Results.{Decoded}
 
 -- "derived edges after the last edge, all at once (field 23, place of the next word, value all edges)";
 -- "the derived-edge refusal carry 0" (document 02, R-2)
@@ -37,8 +36,8 @@ pub record Answer : Type 0 where
 
 -- By what came of the program: "After acceptance every word past the last record is 0"; after a refusal every lent word is 0.
 abbrev pub answer : (Table → ℕ) → ℕ → Outcome Read → Answer
-answer lent at (ok r n) = record { told = D.Accepted (counts_of r (n - at)); left = table r lent }
-answer lent at (no q) = record { told = D.Refused q; left = λ t. zeros (lent t) }
+answer lent at (ok r n) = record { told = Ok (counts_of r (n - at)); left = table r lent }
+answer lent at (no q) = record { told = Err q; left = λ t. zeros (lent t) }
 
 -- The lengths of the nine lent slices, the words, and the place of the first word to be read: 0, but for a reader that holds its place.
 unfoldable pub decoded : (Table → ℕ) → List ℤ → ℕ → Answer

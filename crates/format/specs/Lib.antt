@@ -6,6 +6,8 @@ pub mod Sections
 pub mod Links
 pub mod Places
 pub mod Tables
+pub mod Results
+pub mod Kinds
 pub mod Decode
 pub mod Questions
 -- R-1

@@ -1,5 +1,5 @@
 -- Document 01, "Questions". Tables are lists of words, with counts of records; nothing is written.
-use Rattle.std.specs.Prelude.{List, [], Bool, not, ◌&&◌, ◌||◌, ℕ, zero, suc, ◌+◌, ◌*◌, ◌/◌, leb, eqb, ℤ, pos, length, get_or, take, drop}
+use Rattle.std.specs.Prelude.{List, [], Bool, not, ◌&&◌, ◌||◌, ℕ, zero, suc, ◌+◌, ◌*◌, ◌/◌, leb, eqb, ℤ, pos, length, get_or, take, drop, Ok, Err}
 use Rattle.std.specs.Int.Signed.{le_z}
 use Rattle.format.specs.Reading.{Table, States, Edges, Ranges, Sets, pick}
 use Rattle.format.specs.Sets.{holds, ranges_of}
@@ -7,12 +7,7 @@ use Rattle.format.specs.Sections.{same, size}
 use Rattle.format.specs.Links.{names}
 use Rattle.format.specs.Tables.{width}
 use Rattle.format.specs.declared.Denial.{Denial}
-use Rattle.format.specs.declared.NthEdge.{NthEdge}
-use Rattle.format.specs.declared.NthEdge.TheVariants as E
-use Rattle.format.specs.declared.Matching.{Matching}
-use Rattle.format.specs.declared.Matching.TheVariants as M
-use Rattle.format.specs.declared.SetPart.{SetPart}
-use Rattle.format.specs.declared.SetPart.TheVariants as P
+use Rattle.format.specs.Results.{NthEdge, Matching, SetPart}
 
 -- "13: a question names no such record": value the number
 abbrev pub missing : ℤ → Denial
@@ -34,18 +29,18 @@ at t ws i k = get_or ws (width t * size i + k) (pos 0)
 
 -- "A first, next .. number that is followed and leaves its table's count: 14": n steps on from the edge e; the answered edge is followed too
 unfoldable pub walk : List ℤ → ℕ → ℕ → ℤ → NthEdge
-walk es m zero e = pick (names m e) (E.Edge e) (E.Denied contradiction)
+walk es m zero e = pick (names m e) (Ok e) (Err contradiction)
 walk es m (suc n) e =
     let on = walk es m n (at Edges es e 7) in
-    pick (names m e) on (E.Denied contradiction)
+    pick (names m e) on (Err contradiction)
 
 -- "Counts .. tested first. A state, then n (not below the edge count) .. that is negative or outside: 13."
 unfoldable pub nth_edge : List ℤ → ℕ → List ℤ → ℕ → ℤ → ℤ → NthEdge
 nth_edge ss n es m s k =
     let on = walk es m (size k) (at States ss s 5) in
-    pick (not (fits States n ss && fits Edges m es)) (E.Denied contradiction)
-    (pick (not (names n s)) (E.Denied (missing s))
-    (pick (not (le_z (pos 0) k) || le_z (at States ss s 7) k) (E.Denied (missing k)) on))
+    pick (not (fits States n ss && fits Edges m es)) (Err contradiction)
+    (pick (not (names n s)) (Err (missing s))
+    (pick (not (le_z (pos 0) k) || le_z (at States ss s 7) k) (Err (missing k)) on))
 
 -- ---- "a set's ranges as a part of the lent table"
 
@@ -63,14 +58,14 @@ part_length ls k = 2 * size (at Sets ls k 1)
 
 unfoldable pub set_part : List ℤ → ℕ → List ℤ → ℕ → ℤ → SetPart
 set_part ls n rs m k =
-    pick (not (fits Sets n ls && fits Ranges m rs)) (P.Denied contradiction)
-    (pick (not (names n k)) (P.Denied (missing k))
-    (pick (not (inside ls m k)) (P.Denied contradiction) (P.Part (part_start ls k) (part_length ls k))))
+    pick (not (fits Sets n ls && fits Ranges m rs)) (Err contradiction)
+    (pick (not (names n k)) (Err (missing k))
+    (pick (not (inside ls m k)) (Err contradiction) (Ok ((part_start ls k), (part_length ls k)))))
 
 -- The part itself; empty where the question is refused.
 abbrev pub part_of : List ℤ → SetPart → List ℤ
-part_of rs (P.Part a n) = take n (drop a rs)
-part_of rs (P.Denied d) = []
+part_of rs (Ok (a, n)) = take n (drop a rs)
+part_of rs (Err d) = []
 
 -- ---- "lookup in a lent list of ranges (an odd last word isn't read; never refused)"
 
@@ -97,8 +92,8 @@ unfoldable pub matches : List ℤ → ℕ → List ℤ → ℕ → List ℤ → 
 matches es c ls n rs m e v lo hi =
     let k = at Edges es e 0 in
     let p = at Edges es e 3 in
-    let hit = lookup (part_of rs (P.Part (part_start ls p) (part_length ls p))) v in
-    let on = M.Matches (matching (size k) p (at Edges es e 4) hit v lo hi) in
-    pick (not (fits Edges c es && fits Sets n ls && fits Ranges m rs)) (M.Denied contradiction)
-    (pick (not (names c e)) (M.Denied (missing e))
-    (pick (not (sound ls n m k p)) (M.Denied contradiction) on))
+    let hit = lookup (part_of rs (Ok ((part_start ls p), (part_length ls p)))) v in
+    let on = Ok (matching (size k) p (at Edges es e 4) hit v lo hi) in
+    pick (not (fits Edges c es && fits Sets n ls && fits Ranges m rs)) (Err contradiction)
+    (pick (not (names c e)) (Err (missing e))
+    (pick (not (sound ls n m k p)) (Err contradiction) on))

@@ -1,5 +1,5 @@
 -- Document 02, R-1, "Turn tables back into words": the one fixed form, what was read found again in the records, and the answer.
-use Rattle.std.specs.Prelude.{◌≡◌, List, [], ◌∷◌, ◌++◌, map, Bool, true, false, not, ◌&&◌, ℕ, zero, suc, ◌-◌, ◌≤◌, ◌<◌, ltb, eqb, ℤ, pos, length, get_or, take, drop}
+use Rattle.std.specs.Prelude.{◌≡◌, List, [], ◌∷◌, ◌++◌, map, Bool, true, false, not, ◌&&◌, ℕ, zero, suc, ◌-◌, ◌≤◌, ◌<◌, ltb, eqb, ℤ, pos, length, get_or, take, drop, Ok, Err}
 use Rattle.format.specs.Reading.{Table, States, Edges, Ranges, Sets, Rules, Modes, Decisions, Actions, Outcome, ok, no, pick, bare, run}
 use Rattle.format.specs.Sets.{Range, range}
 use Rattle.format.specs.Sections.{State, Rule, Edge, Action, Read, state_of, edge_of, same, among, size, follows}
@@ -8,8 +8,7 @@ use Rattle.format.specs.Tables.{nine, width, room, range_words, state_word, acti
 use Rattle.format.specs.Places.{st_kind, st_rule, st_end, st_back, st_flags, ed_kind, ed_source, ed_target, ed_p, ed_q, ed_r, ed_mark, ra_start, ra_stop, se_count, ru_start, ru_token, na_state, ac_kind, ac_d1, ac_d2}
 use Rattle.format.specs.Decode.{dialect}
 use Rattle.format.specs.Questions.{fits}
-use Rattle.format.specs.declared.Written.{Written}
-use Rattle.format.specs.declared.Written.TheVariants as W
+use Rattle.format.specs.Results.{Written}
 
 -- ---- "One fixed form": the words of what was read
 
@@ -167,11 +166,11 @@ writing told left = record { told = told; left = left }
 
 -- "The answer is the number of words; the output behind them is zero." The output has m words.
 abbrev pub wrote : List ℤ → ℕ → Writing
-wrote ws m = writing (W.Wrote (length ws)) (ws ++ zeros (m - length ws))
+wrote ws m = writing (Ok (length ws)) (ws ++ zeros (m - length ws))
 
 -- "either leaves the output all zero"
 abbrev pub unwritten : ℕ → ℕ → Writing
-unwritten number m = writing (W.Refused (bare number)) (zeros m)
+unwritten number m = writing (Err (bare number)) (zeros m)
 
 -- "15 exactly when .., tested first; 16 exactly when the output is too short": these three are all there are (rewriting: `writes-only`), and
 -- each is given in its own case alone (`fifteen_only`, `sixteen_only`, `wrote_writable`).

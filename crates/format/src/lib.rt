@@ -5,8 +5,10 @@
 
 pub mod action;
 pub mod edge;
+pub mod kinds;
 pub mod name;
 pub mod range;
+pub mod reason;
 pub mod rule;
 pub mod set;
 pub mod state;
@@ -15,14 +17,14 @@ ghost use Rattle.std.specs.Prelude.{◌≡◌, get_or};
 ghost use Rattle.format.specs.Sections.{follows};
 
 // What a word belongs to: its field, and the number of its record, from 0 (document 02, R-2).
-#[derive(Clone, Copy)]
+#[derive(Clone, Copy, Debug, PartialEq, Eq)]
 pub struct Spot {
     pub field: u32,
     pub record: usize,
 }
 
 // Why a decode or a writing was refused: its number, field, record number, place and value.
-#[derive(Clone, Copy)]
+#[derive(Clone, Copy, Debug, PartialEq, Eq)]
 pub struct Refusal {
     pub number: u32,
     pub field: u32,
@@ -32,7 +34,7 @@ pub struct Refusal {
 }
 
 // Words read, max token type, and records in each table, with derived edges also on their own.
-#[derive(Clone, Copy)]
+#[derive(Clone, Copy, Debug, PartialEq, Eq)]
 pub struct Counts {
     pub words: usize,
     pub token: i32,
@@ -48,60 +50,36 @@ pub struct Counts {
 }
 
 // Either an acceptance holding its counts or a refusal holding its number, field, record number, place and value.
-#[derive(Clone, Copy)]
-pub enum Decoded {
-    Accepted(Counts),
-    Refused(Refusal),
-}
+pub type Decoded = Result<Counts, Refusal>;
 
 // The number of words that were written, or why none were (document 02, R-1).
-#[derive(Clone, Copy)]
-pub enum Written {
-    Wrote(usize),
-    Refused(Refusal),
-}
+pub type Written = Result<usize, Refusal>;
 
 // Why a question was refused: a question's refusal holds number and value.
-#[derive(Clone, Copy)]
+#[derive(Clone, Copy, Debug, PartialEq, Eq)]
 pub struct Denial {
     pub number: u32,
     pub value: i64,
 }
 
 // The number of a state's n-th edge.
-#[derive(Clone, Copy)]
-pub enum NthEdge {
-    Edge(i32),
-    Denied(Denial),
-}
+pub type NthEdge = Result<i32, Denial>;
 
 // Whether an edge matches a symbol.
-#[derive(Clone, Copy)]
-pub enum Matching {
-    Matches(bool),
-    Denied(Denial),
-}
+pub type Matching = Result<bool, Denial>;
 
 // A set's ranges as a part of the lent table: the part's first word, and its length in words.
-#[derive(Clone, Copy)]
-pub enum SetPart {
-    Part(usize, usize),
-    Denied(Denial),
-}
+pub type SetPart = Result<(usize, usize), Denial>;
 
 // How many words follow a state of each of the thirteen types. Bytes, since the table is laid out anew where it is read.
 pub const FOLLOWS: [u8; 13] = [0, 1, 1, 2, 2, 2, 1, 1, 1, 1, 1, 1, 2];
-
-// A byte, wider.
-fn wide(x: u8) -> usize
-    ensures { result ≡ x }
-{
-    x as usize
-}
 
 // The table, read: 0 for what is no state type.
 pub fn words_after(kind: usize) -> usize
     ensures { result ≡ get_or follows kind 0 }
 {
-    if kind < 13 { wide(FOLLOWS[kind]) } else { 0 }
+    match FOLLOWS.get(kind) {
+        Some(&words) => usize::from(words),
+        None => 0,
+    }
 }

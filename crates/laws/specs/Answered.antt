@@ -1,6 +1,6 @@
 -- The questions, asked of what an accepted decode left: a state's edges are its chain in order, 14 is never answered, and an edge
 -- with a set matches by the set's members.
-use Rattle.std.specs.Prelude.{◌≡◌, List, [], Bool, true, false, not, ◌&&◌, ◌||◌, ◌↔◌, ℕ, ◌+◌, ◌*◌, ◌≤◌, ◌<◌, ℤ, pos, negsuc, length, get_or, ◌≤ℤ◌}
+use Rattle.std.specs.Prelude.{◌≡◌, List, [], Bool, true, false, not, ◌&&◌, ◌||◌, ◌↔◌, ℕ, ◌+◌, ◌*◌, ◌≤◌, ◌<◌, ℤ, pos, negsuc, length, get_or, ◌≤ℤ◌, Ok, Err}
 use Rattle.std.proofs.Math.Path.{refl, sym, ap}
 use Rattle.std.proofs.Common.{◌∙◌, ⊎_elim, arith, SFits}
 use Rattle.std.proofs.Math.Bool.{or-false}
@@ -8,13 +8,7 @@ use Rattle.std.specs.Int.Signed.{le_z}
 use Rattle.std.specs.Int.{w32}
 use borrow.Author.Tests.{lt-ltb, le-ltb, ltb-true, le-leb}
 use Rattle.format.specs.declared.Counts.{Counts}
-use Rattle.format.specs.declared.Decoded.TheVariants as D
-use Rattle.format.specs.declared.NthEdge.{NthEdge}
-use Rattle.format.specs.declared.NthEdge.TheVariants as E
-use Rattle.format.specs.declared.SetPart.{SetPart}
-use Rattle.format.specs.declared.SetPart.TheVariants as P
-use Rattle.format.specs.declared.Matching.{Matching}
-use Rattle.format.specs.declared.Matching.TheVariants as M
+use Rattle.format.specs.Results.{NthEdge, SetPart, Matching}
 use Rattle.format.specs.Reading.{Table, States, Edges, Ranges, Sets, Outcome}
 use Rattle.format.specs.Sets.{Range}
 use Rattle.format.specs.Sections.{Edge, Read, size}
@@ -60,19 +54,19 @@ module _ (lent : Table → ℕ) (r : Read) (fit : (t : Table) → length (flat (
   abbrev answered_match : ℤ → ℤ → ℤ → ℤ → Matching
   answered_match i v lo hi = matches (table r lent Edges) (length (edges_of r)) (table r lent Sets) (length r.sets) (table r lent Ranges) (length (flat r.sets)) i v lo hi
 
-  edge_unlisted : (s k : ℤ) → names (length r.states) s ≡ false → answered_edge s k ≡ E.Denied (missing s)
+  edge_unlisted : (s k : ℤ) → names (length r.states) s ≡ false → answered_edge s k ≡ Err (missing s)
   unfolding nth_edge
   edge_unlisted s k e = rw (states_fit lent r fit, edges_fit lent r fit, e) refl
 
-  edge-negative : (s : ℤ) (k : ℕ) → names (length r.states) s ≡ true → answered_edge s (negsuc k) ≡ E.Denied (missing (negsuc k))
+  edge-negative : (s : ℤ) (k : ℕ) → names (length r.states) s ≡ true → answered_edge s (negsuc k) ≡ Err (missing (negsuc k))
   unfolding nth_edge
   edge-negative s k e = rw (states_fit lent r fit, edges_fit lent r fit, e) refl
 
-  part_unlisted : (k : ℤ) → names (length r.sets) k ≡ false → answered_part k ≡ P.Denied (missing k)
+  part_unlisted : (k : ℤ) → names (length r.sets) k ≡ false → answered_part k ≡ Err (missing k)
   unfolding set_part
   part_unlisted k e = rw (sets_fit lent r fit, ranges_fit lent r fit, e) refl
 
-  match_unlisted : (i v lo hi : ℤ) → names (length (edges_of r)) i ≡ false → answered_match i v lo hi ≡ M.Denied (missing i)
+  match_unlisted : (i v lo hi : ℤ) → names (length (edges_of r)) i ≡ false → answered_match i v lo hi ≡ Err (missing i)
   unfolding matches
   match_unlisted i v lo hi e = rw (edges_fit lent r fit, sets_fit lent r fit, ranges_fit lent r fit, e) refl
 
@@ -81,7 +75,7 @@ module _ (lent : Table → ℕ) (r : Read) (fit : (t : Table) → length (flat (
     e = get_or (edges_of r) i no_edge
 
     abbrev hit : ℤ → Bool
-    hit v = lookup (part_of (table r lent Ranges) (P.Part (part_start (table r lent Sets) e.p) (part_length (table r lent Sets) e.p))) v
+    hit v = lookup (part_of (table r lent Ranges) (Ok ((part_start (table r lent Sets) e.p), (part_length (table r lent Sets) e.p)))) v
 
     edge_good : Sound (length r.states) (length r.sets) e
     edge_good = every-at (Sound (length r.states) (length r.sets)) (edges_of r) no_edge i good h
@@ -99,7 +93,7 @@ module _ (lent : Table → ℕ) (r : Read) (fit : (t : Table) → length (flat (
         go false q = refl
 
     -- a listed edge is answered by its type
-    match_listed : (v lo hi : ℤ) → answered_match (pos i) v lo hi ≡ M.Matches (matching e.kind e.p e.q (hit v) v lo hi)
+    match_listed : (v lo hi : ℤ) → answered_match (pos i) v lo hi ≡ Ok (matching e.kind e.p e.q (hit v) v lo hi)
     unfolding matches
     match_listed v lo hi =
         rw (edges_fit lent r fit, sets_fit lent r fit, ranges_fit lent r fit, lt-ltb i (length (edges_of r)) h, edge_word lent r fit i 0 h (omega arith), edge_word lent r fit i 3 h (omega arith), edge_word lent r fit i 4 h (omega arith), sound_here) refl
@@ -109,7 +103,7 @@ module _ (lent : Table → ℕ) (r : Read) (fit : (t : Table) → length (flat (
     hit_kept s v = by e.p (edge_good.set s)
       where
         by : (p : ℤ) → names (length r.sets) p ≡ true
-            → lookup (part_of (table r lent Ranges) (P.Part (part_start (table r lent Sets) p) (part_length (table r lent Sets) p))) v ≡ lookup (each range_words (get_or r.sets (size p) [])) v
+            → lookup (part_of (table r lent Ranges) (Ok ((part_start (table r lent Sets) p), (part_length (table r lent Sets) p)))) v ≡ lookup (each range_words (get_or r.sets (size p) [])) v
         by (pos k) t = ap (λ (l : List ℤ). lookup l v) (part_words lent r fit k (ltb-true k (length r.sets) t))
         by (negsuc k) t = never refl t
 
@@ -142,12 +136,12 @@ module _ (lent : Table → ℕ) (r : Read) (fit : (t : Table) → length (flat (
 -- a match is answered, and says whether P holds
 pub record Decides (m : Matching) (P : Type 0) : Type 0 where
   pub yes : Bool
-  pub told : m ≡ M.Matches yes
+  pub told : m ≡ Ok yes
   pub means : yes ≡ true ↔ P
 
 -- ---- what an accepted decode left
 
-module _ (lent : Table → ℕ) (ws : List ℤ) (at : ℕ) (c : Counts) (e : (decoded lent ws at).told ≡ D.Accepted c) where
+module _ (lent : Table → ℕ) (ws : List ℤ) (at : ℕ) (c : Counts) (e : (decoded lent ws at).told ≡ Ok c) where
   abbrev accepted : Accepting lent ws at c
   accepted = accepting lent ws at c e
 
@@ -197,11 +191,11 @@ module _ (lent : Table → ℕ) (ws : List ℤ) (at : ℕ) (c : Counts) (e : (de
   edges-counted s h = ap (λ (l : List ℤ). get_or l (8 * s + 7) (pos 0)) (left_is States) ∙ count_word lent r fit s (omega (arith, states_are))
 
   pub edges-in-order : (s k : ℕ) → s < c.states → k < length (chain (edges_of r) s)
-      → nth_edge (left States) c.states (left Edges) c.edges (pos s) (pos k) ≡ E.Edge (pos (get_or (chain (edges_of r) s) k 0))
+      → nth_edge (left States) c.states (left Edges) c.edges (pos s) (pos k) ≡ Ok (pos (get_or (chain (edges_of r) s) k 0))
   edges-in-order s k h l = edge_is (pos s) (pos k) ∙ nth_edge_lem lent r fit s k (omega (arith, states_are)) l
 
   pub edges_end_lem : (s k : ℕ) → s < c.states → length (chain (edges_of r) s) ≤ k
-      → nth_edge (left States) c.states (left Edges) c.edges (pos s) (pos k) ≡ E.Denied (missing (pos k))
+      → nth_edge (left States) c.states (left Edges) c.edges (pos s) (pos k) ≡ Err (missing (pos k))
   edges_end_lem s k h l = edge_is (pos s) (pos k) ∙ nth_behind lent r fit s k (omega (arith, states_are)) l
 
   -- (b) 14 is never answered, whatever is asked
@@ -234,10 +228,10 @@ module _ (lent : Table → ℕ) (ws : List ℤ) (at : ℕ) (c : Counts) (e : (de
     abbrev found : Bool
     found = lookup (each range_words members) v
 
-    by_type : setting (pos edge_here.kind) ≡ true → asked ≡ M.Matches (matching edge_here.kind edge_here.p edge_here.q found v lo hi)
+    by_type : setting (pos edge_here.kind) ≡ true → asked ≡ Ok (matching edge_here.kind edge_here.p edge_here.q found v lo hi)
     by_type s =
         match_is (pos i) v lo hi ∙ match_listed lent r fit good i listed_here v lo hi
-        ∙ ap (λ (x : Bool). M.Matches (matching edge_here.kind edge_here.p edge_here.q x v lo hi)) (hit_kept lent r fit good i listed_here s v)
+        ∙ ap (λ (x : Bool). Ok (matching edge_here.kind edge_here.p edge_here.q x v lo hi)) (hit_kept lent r fit good i listed_here s v)
 
     found_means : setting (pos edge_here.kind) ≡ true → found ≡ true ↔ InZ v members
     found_means s = by edge_here.p ((edge_good lent r fit good i listed_here).set s)
@@ -260,9 +254,9 @@ module _ (lent : Table → ℕ) (ws : List ℤ) (at : ℕ) (c : Counts) (e : (de
     pub set_matches : edge_here.kind ≡ 7 → Decides asked (InZ v members)
     set_matches k =
         let s : setting (pos edge_here.kind) ≡ true = rw k refl in
-        record { yes = found; told = by_type s ∙ ap M.Matches (rw k (simp or-false)); means = found_means s }
+        record { yes = found; told = by_type s ∙ ap Ok (rw k (simp or-false)); means = found_means s }
 
     pub not_set_matches : edge_here.kind ≡ 8 → Decides asked (((lo ≤ℤ v) × (v ≤ℤ hi)) × (InZ v members → ⊥))
     not_set_matches k =
         let s : setting (pos edge_here.kind) ≡ true = rw k refl in
-        record { yes = within && not found; told = by_type s ∙ ap M.Matches (rw k (simp or-false)); means = shown_means s }
+        record { yes = within && not found; told = by_type s ∙ ap Ok (rw k (simp or-false)); means = shown_means s }

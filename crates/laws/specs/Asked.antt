@@ -1,5 +1,5 @@
 -- The questions, asked of the tables that an accepted list leaves: the n-th edge is the n-th of the chain, and a set's part is its kept ranges.
-use Rattle.std.specs.Prelude.{◌≡◌, ℤ, drop}
+use Rattle.std.specs.Prelude.{◌≡◌, ℤ, drop, Ok, Err}
 use Rattle.std.proofs.Math.Path.{refl, ap}
 use Rattle.std.proofs.Common.{sym, ◌∙◌, drop_at, drop-cons}
 use Rattle.std.proofs.Math.Bool.{true, false}
@@ -17,8 +17,6 @@ use Rattle.format.specs.Sections.{State, Edge, Read, edge_of, state_of, none}
 use Rattle.format.specs.Links.{each, flat, first, chain, next}
 use Rattle.format.specs.Tables.{width, list_of, edges_of, state_words, edge_words, range_words, set_records, records, zeros, table}
 use Rattle.format.specs.Questions.{missing, fits, walk, nth_edge, inside, set_part, part_start, part_length, part_of}
-use Rattle.format.specs.declared.NthEdge.TheVariants as E
-use Rattle.format.specs.declared.SetPart.TheVariants as P
 use Rattle.laws.specs.Fits.{sets_long, records-wide}
 use Rattle.laws.specs.Chains.{chain_are, next_in_lem, at_mem}
 use Rattle.laws.specs.Rows.{numbered_long, numbered-at, flat_list, flat_long, flat-at}
@@ -103,15 +101,15 @@ module _ (lent : Table → ℕ) (r : Read) (fit : (t : Table) → length (flat (
         ∙ next_in_lem (edges_of r) s j (omega arith)
         ∙ first-at c (suc j) h
 
-    walk-chain : (k j : ℕ) → j + k < length c → walk (table r lent Edges) (length (edges_of r)) k (pos (get_or c j 0)) ≡ E.Edge (pos (get_or c (j + k) 0))
+    walk-chain : (k j : ℕ) → j + k < length c → walk (table r lent Edges) (length (edges_of r)) k (pos (get_or c j 0)) ≡ Ok (pos (get_or c (j + k) 0))
     unfolding walk
     walk-chain zero j h =
         let e : j + 0 ≡ j = omega arith in
-        rw (lt-ltb (get_or c j 0) (length (edges_of r)) (member j (omega arith)).0) (ap (λ (n : ℕ). E.Edge (pos (get_or c n 0))) (sym e))
+        rw (lt-ltb (get_or c j 0) (length (edges_of r)) (member j (omega arith)).0) (ap (λ (n : ℕ). Ok (pos (get_or c n 0))) (sym e))
     walk-chain (suc k) j h =
         let e : suc j + k ≡ j + suc k = omega arith in
         rw (lt-ltb (get_or c j 0) (length (edges_of r)) (member j (omega arith)).0, next_word j (omega arith))
-        (walk-chain k (suc j) (omega arith) ∙ ap (λ (n : ℕ). E.Edge (pos (get_or c n 0))) e)
+        (walk-chain k (suc j) (omega arith) ∙ ap (λ (n : ℕ). Ok (pos (get_or c n 0))) e)
 
   -- a listed state's edge count is its chain's length
   pub count_word : (s : ℕ) → s < length r.states → get_or (table r lent States) (8 * s + 7) (pos 0) ≡ pos (length (chain (edges_of r) s))
@@ -119,18 +117,18 @@ module _ (lent : Table → ℕ) (r : Read) (fit : (t : Table) → length (flat (
 
   -- "the number of a state's n-th edge" is the n-th of its chain
   pub nth_edge_lem : (s k : ℕ) → s < length r.states → k < length (chain (edges_of r) s)
-      → nth_edge (table r lent States) (length r.states) (table r lent Edges) (length (edges_of r)) (pos s) (pos k) ≡ E.Edge (pos (get_or (chain (edges_of r) s) k 0))
+      → nth_edge (table r lent States) (length r.states) (table r lent Edges) (length (edges_of r)) (pos s) (pos k) ≡ Ok (pos (get_or (chain (edges_of r) s) k 0))
   unfolding nth_edge
   nth_edge_lem s k h l =
       let f3 : ltb s (length r.states) ≡ true = lt-ltb s (length r.states) h in
       let f5 : leb (length (chain (edges_of r) s)) k ≡ false = lt-leb (length (chain (edges_of r) s)) k l in
       let f6 : get_or (table r lent States) (8 * s + 5) (pos 0) ≡ pos (get_or (chain (edges_of r) s) 0 0) = state_word_lem s 5 h (omega arith) ∙ first-at (chain (edges_of r) s) 0 (omega arith) in
       let f7 : leb 0 k ≡ true = le-leb 0 k (omega arith) in
-      rw (states_fit, edges_fit, f3, count_word s h, f5, f6, f7) (walk-chain s k 0 (omega arith) ∙ ap (λ (n : ℕ). E.Edge (pos (get_or (chain (edges_of r) s) n 0))) (omega arith))
+      rw (states_fit, edges_fit, f3, count_word s h, f5, f6, f7) (walk-chain s k 0 (omega arith) ∙ ap (λ (n : ℕ). Ok (pos (get_or (chain (edges_of r) s) n 0))) (omega arith))
 
   -- and from its edge count on there is none
   pub nth_behind : (s k : ℕ) → s < length r.states → length (chain (edges_of r) s) ≤ k
-      → nth_edge (table r lent States) (length r.states) (table r lent Edges) (length (edges_of r)) (pos s) (pos k) ≡ E.Denied (missing (pos k))
+      → nth_edge (table r lent States) (length r.states) (table r lent Edges) (length (edges_of r)) (pos s) (pos k) ≡ Err (missing (pos k))
   unfolding nth_edge
   nth_behind s k h l =
       let f3 : ltb s (length r.states) ≡ true = lt-ltb s (length r.states) h in
@@ -176,14 +174,14 @@ module _ (lent : Table → ℕ) (r : Read) (fit : (t : Table) → length (flat (
       rw (set_word 0 (omega arith), set_word 1 (omega arith), f6, f7, f8) refl
 
   -- "a set's ranges as a part of the lent table"
-  pub set-part : set_part (table r lent Sets) (length r.sets) (table r lent Ranges) (length (flat r.sets)) (pos k) ≡ P.Part (2 * start) (2 * length kept)
+  pub set-part : set_part (table r lent Sets) (length r.sets) (table r lent Ranges) (length (flat r.sets)) (pos k) ≡ Ok ((2 * start), (2 * length kept))
   unfolding set_part
   set-part =
       let f3 : ltb k (length r.sets) ≡ true = lt-ltb k (length r.sets) h in
       rw (sets_fit lent r fit, ranges_fit lent r fit, f3, set-inside, set_word 0 (omega arith), set_word 1 (omega arith)) refl
 
   -- and the part is the words of what the set keeps
-  pub part_is : part_of (table r lent Ranges) (P.Part (2 * start) (2 * length kept)) ≡ each range_words kept
+  pub part_is : part_of (table r lent Ranges) (Ok ((2 * start), (2 * length kept))) ≡ each range_words kept
   unfolding table records
   part_is =
       let zs = zeros (lent Ranges - length (flat (list_of range_words (flat r.sets)))) in
@@ -200,5 +198,5 @@ module _ (lent : Table → ℕ) (r : Read) (fit : (t : Table) → length (flat (
       ∙ take_at B (C ++ zs) (2 * length kept) (words_long kept)
 
   -- also where its first word and its length are read from the set's record
-  pub part_words : part_of (table r lent Ranges) (P.Part (part_start (table r lent Sets) (pos k)) (part_length (table r lent Sets) (pos k))) ≡ each range_words kept
+  pub part_words : part_of (table r lent Ranges) (Ok ((part_start (table r lent Sets) (pos k)), (part_length (table r lent Sets) (pos k)))) ≡ each range_words kept
   part_words = rw (set_word 0 (omega arith), set_word 1 (omega arith)) part_is

@@ -1,5 +1,5 @@
 -- Demand 3 on whole decodes: what was read decides, a shorter run is refused as ended, more words and more room change nothing else.
-use Rattle.std.specs.Prelude.{◌≡◌, refl, List, [], ◌++◌, ℕ, ◌+◌, ◌-◌, ◌≤◌, ◌<◌, ℤ, pos, length, take}
+use Rattle.std.specs.Prelude.{◌≡◌, refl, List, [], ◌++◌, ℕ, ◌+◌, ◌-◌, ◌≤◌, ◌<◌, ℤ, pos, length, take, Ok, Err}
 use Rattle.std.proofs.Common.{sym, ◌∙◌, subst, append_assoc, arith, length-append, length-take, get_or-take, ⊎_elim, le-ltb}
 use Rattle.std.proofs.Math.Path.{ap}
 use Rattle.std.proofs.Math.ListN.{get_or-append}
@@ -7,7 +7,6 @@ use Rattle.std.proofs.lemmas.List.{replicate-append-replicate}
 use Rattle.format.specs.declared.Refusal.{Refusal}
 use Rattle.format.specs.declared.Spot.{Spot}
 use Rattle.format.specs.declared.Counts.{Counts}
-use Rattle.format.specs.declared.Decoded.TheVariants as D
 use Rattle.format.specs.Reading.{Table, States, Edges, Ranges, Sets, Rules, Modes, Decisions, Actions, Scratch, Outcome, ok, no, run, spot, ended, ◌>>=◌}
 use Rattle.format.specs.Sections.{Read, version}
 use Rattle.format.specs.Links.{flat}
@@ -24,19 +23,19 @@ pub record Accepting (lent : Table → ℕ) (ws : List ℤ) (at : ℕ) (c : Coun
   pub ran : run dialect ws (room lent) at ≡ ok read behind
   pub counted : counts_of read (behind - at) ≡ c
 
-pub accepting : (lent : Table → ℕ) (ws : List ℤ) (at : ℕ) (c : Counts) → (decoded lent ws at).told ≡ D.Accepted c → Accepting lent ws at c
+pub accepting : (lent : Table → ℕ) (ws : List ℤ) (at : ℕ) (c : Counts) → (decoded lent ws at).told ≡ Ok c → Accepting lent ws at c
 unfolding decoded
 accepting lent ws at c e = go (run dialect ws (room lent) at) refl e
   where
-    go : (o : Outcome Read) → run dialect ws (room lent) at ≡ o → (answer lent at o).told ≡ D.Accepted c → Accepting lent ws at c
+    go : (o : Outcome Read) → run dialect ws (room lent) at ≡ o → (answer lent at o).told ≡ Ok c → Accepting lent ws at c
     go (ok r n) q t = record { read = r; behind = n; ran = q; counted = cc }
     go (no q) p t = absurd (let z : ◌≡◌ {A = ℕ} 0 1 = cc in omega arith)
 
-pub refusing : (lent : Table → ℕ) (ws : List ℤ) (at : ℕ) (q : Refusal) → (decoded lent ws at).told ≡ D.Refused q → run dialect ws (room lent) at ≡ no q
+pub refusing : (lent : Table → ℕ) (ws : List ℤ) (at : ℕ) (q : Refusal) → (decoded lent ws at).told ≡ Err q → run dialect ws (room lent) at ≡ no q
 unfolding decoded
 refusing lent ws at q e = go (run dialect ws (room lent) at) refl e
   where
-    go : (o : Outcome Read) → run dialect ws (room lent) at ≡ o → (answer lent at o).told ≡ D.Refused q → run dialect ws (room lent) at ≡ no q
+    go : (o : Outcome Read) → run dialect ws (room lent) at ≡ o → (answer lent at o).told ≡ Err q → run dialect ws (room lent) at ≡ no q
     go (ok r n) p t = absurd (let z : ◌≡◌ {A = ℕ} 0 1 = cc in omega arith)
     go (no x) p t = let z : x ≡ q = cc in p ∙ ap no z
 
@@ -67,7 +66,7 @@ module _ (ws zs : List ℤ) (n : ℕ) (h : n ≤ length ws) where
   taken_agree : Agree ws (take n ws ++ zs) n
   taken_agree = record { words = λ i k. get_or-append (take n ws) zs (pos 0) i (omega (arith, taken_long)) ∙ get_or-take n ws i (pos 0) k }
 
-module _ (lent : Table → ℕ) (ws : List ℤ) (at : ℕ) (c : Counts) (e : (decoded lent ws at).told ≡ D.Accepted c) where
+module _ (lent : Table → ℕ) (ws : List ℤ) (at : ℕ) (c : Counts) (e : (decoded lent ws at).told ≡ Ok c) where
   -- (a) the words read, with anything behind them, give the same answer and the same tables
   pub same-again : (zs : List ℤ) → decoded lent (take (at + c.words) ws ++ zs) at ≡ decoded lent ws at
   same-again zs =
@@ -96,7 +95,7 @@ module _ (lent : Table → ℕ) (ws : List ℤ) (at : ℕ) (c : Counts) (e : (de
   cut_short m k = let y = shorter m k in (y.0, ap (answer lent at) y.1)
 
 -- (c) a refusal other than 1 survives added words
-pub stays_refused : (lent : Table → ℕ) (ws zs : List ℤ) (at : ℕ) (q : Refusal) → (decoded lent ws at).told ≡ D.Refused q → (q.number ≡ 1 → ⊥) → decoded lent (ws ++ zs) at ≡ decoded lent ws at
+pub stays_refused : (lent : Table → ℕ) (ws zs : List ℤ) (at : ℕ) (q : Refusal) → (decoded lent ws at).told ≡ Err q → (q.number ≡ 1 → ⊥) → decoded lent (ws ++ zs) at ≡ decoded lent ws at
 stays_refused lent ws zs at q e n1 =
     let r = refusing lent ws at q e in
     decoded_by lent ws (ws ++ zs) at (survives dialect ws zs (room lent) at r n1 ∙ sym r)
@@ -126,17 +125,17 @@ table_more lent more g r t h =
 zeros-more : (a b : ℕ) → a ≤ b → zeros b ≡ zeros a ++ zeros (b - a)
 zeros-more a b h = let e : a + (b - a) ≡ b = omega arith in sym (replicate-append-replicate a (b - a) (pos 0) ∙ ap zeros e)
 
-roomy : (lent : Table → ℕ) (ws : List ℤ) (at : ℕ) → ((q : Refusal) → (decoded lent ws at).told ≡ D.Refused q → q.number ≡ 12 → ⊥) → Roomy (run dialect ws (room lent) at)
+roomy : (lent : Table → ℕ) (ws : List ℤ) (at : ℕ) → ((q : Refusal) → (decoded lent ws at).told ≡ Err q → q.number ≡ 12 → ⊥) → Roomy (run dialect ws (room lent) at)
 unfolding decoded
 roomy lent ws at h = go (run dialect ws (room lent) at) h
   where
-    go : (o : Outcome Read) → ((q : Refusal) → (answer lent at o).told ≡ D.Refused q → q.number ≡ 12 → ⊥) → Roomy o
+    go : (o : Outcome Read) → ((q : Refusal) → (answer lent at o).told ≡ Err q → q.number ≡ 12 → ⊥) → Roomy o
     go (ok r n) f = tt
     go (no q) f = f q refl
 
 -- unless the smaller room's answer was 12, the larger room's is the same, and the tables have zeros behind what they had
 pub more_room : (lent more : Table → ℕ) → ((t : Table) → lent t ≤ more t) → (ws : List ℤ) (at : ℕ)
-    → ((q : Refusal) → (decoded lent ws at).told ≡ D.Refused q → q.number ≡ 12 → ⊥)
+    → ((q : Refusal) → (decoded lent ws at).told ≡ Err q → q.number ≡ 12 → ⊥)
     → ((decoded more ws at).told ≡ (decoded lent ws at).told) × ((t : Table) → (decoded more ws at).left t ≡ (decoded lent ws at).left t ++ zeros (more t - lent t))
 unfolding decoded
 more_room lent more g ws at h = go (run dialect ws (room lent) at) refl

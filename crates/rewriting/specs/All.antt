@@ -1,7 +1,8 @@
 -- A test of all numbers below n, as a loop makes it.
 use Rattle.std.specs.Prelude.{◌≡◌, refl, Bool, true, false, ◌&&◌, ◌↔◌, ℕ, zero, suc, ◌+◌, ◌≤◌, ◌<◌}
-use Rattle.std.proofs.Common.{ap, ◌∙◌, ⊎_elim, arith, add-one}
-use Rattle.std.proofs.Math.Bool.{and-false}
+use Rattle.std.specs.List.{list_all, range_with_len}
+use Rattle.std.proofs.Common.{sym, ap, ◌∙◌, ⊎_elim, arith, add-one, zero-add}
+use Rattle.std.proofs.Math.Bool.{and-true, and-false, and_assoc}
 use Rattle.laws.specs.Order.{order}
 use Rattle.rewriting.specs.Tests.{left, right, both}
 use Rattle.rewriting.specs.Passes.{all}
@@ -17,6 +18,19 @@ all_fails p (suc n) i h e = ⊎_elim (λ (l : n ≤ i). here (let q : n ≡ i = 
   where
     here : n ≡ i → (all n p && p n) ≡ false
     here q = ap (λ (b : Bool). all n p && b) (ap p q ∙ e) ∙ and-false (all n p)
+
+-- the test of an iterator over the numbers
+pub all_numbers : (p : ℕ → Bool) (n : ℕ) → list_all p (range_with_len 0 n) ≡ all n p
+all_numbers p n = from 0 n ∙ ap (λ (k : ℕ). all k p) (zero-add n)
+  where
+    from : (a n : ℕ) → (all a p && list_all p (range_with_len a n)) ≡ all (a + n) p
+    from a zero = and-true (all a p) ∙ ap (λ (k : ℕ). all k p) (let e : a ≡ a + 0 = omega arith in e)
+    from a (suc n) =
+        let e : a + 1 + n ≡ a + suc n = omega arith in
+        sym (and_assoc (all a p) (p a) (list_all p (range_with_len (a + 1) n)))
+        ∙ ap (λ (k : ℕ). all k p && list_all p (range_with_len (a + 1) n)) (sym (add-one a))
+        ∙ from (a + 1) n
+        ∙ ap (λ (k : ℕ). all k p) e
 
 -- what it says
 pub all_exactly : (n : ℕ) (p : ℕ → Bool) → all n p ≡ true ↔ ((i : ℕ) → i < n → p i ≡ true)

@@ -1,5 +1,5 @@
 -- The laws of `write`: its answers by their meaning, and what a decode makes of what was written from a decode's tables.
-use Rattle.std.specs.Prelude.{◌≡◌, List, [], ◌∷◌, ◌++◌, Bool, ◌&&◌, ◌↔◌, ℕ, ◌-◌, ◌*◌, ◌/◌, ◌≤◌, ◌<◌, ltb, ℤ}
+use Rattle.std.specs.Prelude.{◌≡◌, List, [], ◌∷◌, ◌++◌, Bool, ◌&&◌, ◌↔◌, ℕ, ◌-◌, ◌*◌, ◌/◌, ◌≤◌, ◌<◌, ltb, ℤ, Ok, Err}
 use Rattle.std.proofs.Math.Path.{refl, sym, ap}
 use Rattle.std.proofs.Common.{◌∙◌, subst, append_assoc, append-nil, ⊎_elim, length-append, take_at, drop_at}
 use Rattle.std.proofs.Math.Bool.{true, false}
@@ -7,9 +7,7 @@ use native.Mathlib.Omega.{arith}
 use Rattle.std.proofs.Math.ListN.{length}
 use borrow.Author.Tests.{lt-ltb, le-ltb, le-leb}
 use Rattle.format.specs.declared.Counts.{Counts}
-use Rattle.format.specs.declared.Decoded.TheVariants as D
-use Rattle.format.specs.declared.Written.{Written}
-use Rattle.format.specs.declared.Written.TheVariants as W
+use Rattle.format.specs.Results.{Written}
 use Rattle.format.specs.Answers.{of_written}
 use Rattle.format.specs.Reading.{Outcome, ok, run, bare, Table, States, Edges, Ranges, Sets, Rules, Modes, Decisions, Actions, Scratch, pick}
 use Rattle.format.specs.Sections.{Read, bit}
@@ -76,7 +74,7 @@ module _ (tables : Table → List ℤ) (counts : Table → ℕ) (token : ℤ) (m
 
 module _ (tables : Table → List ℤ) (counts : Table → ℕ) (token : ℤ) (m : ℕ) (a : Writing) (h : Writes tables counts token m a) where
   -- an answer other than 15 is given of what can be written alone
-  pub not_fifteen : (a.told ≡ W.Refused (bare 15) → ⊥) → Writable tables counts
+  pub not_fifteen : (a.told ≡ Err (bare 15) → ⊥) → Writable tables counts
   not_fifteen never = go (inside tables counts && comes (given tables counts) token) refl
     where
       go : (b : Bool) → (inside tables counts && comes (given tables counts) token) ≡ b → Writable tables counts
@@ -84,42 +82,42 @@ module _ (tables : Table → List ℤ) (counts : Table → ℕ) (token : ℤ) (m
       go false e = absurd (never (ap (λ (x : Writing). x.told) (h.fifteen (λ w. let z : ◌≡◌ {A = ℕ} (bit true) (bit false) = ap bit (sym ((test_exactly tables counts token m).1 w) ∙ e) in omega arith))))
 
   -- 15 is given of nothing that can be written
-  pub fifteen_only : a.told ≡ W.Refused (bare 15) → Writable tables counts → ⊥
+  pub fifteen_only : a.told ≡ Err (bare 15) → Writable tables counts → ⊥
   fifteen_only e w =
       ⊎_elim
       (λ (k : length (words_for tables counts token) ≤ m). other (sym e ∙ ap (λ (x : Writing). x.told) (h.words w k)))
       (λ k. another (sym e ∙ ap (λ (x : Writing). x.told) (h.sixteen w k)))
       (order (length (words_for tables counts token)) m)
     where
-      other : {i : ℕ} → W.Refused (bare 15) ≡ W.Wrote i → ⊥
+      other : {i : ℕ} → Err (bare 15) ≡ Ok i → ⊥
       other q = let z : ◌≡◌ {A = ℕ} 0 1 = cc in omega arith
 
-      another : W.Refused (bare 15) ≡ W.Refused (bare 16) → ⊥
+      another : ◌≡◌ {A = Written} (Err (bare 15)) (Err (bare 16)) → ⊥
       another q = let z = ap (λ (w : Written). (of_written w).number) q in omega arith
 
   -- what was written can be, and is those words
-  pub wrote_writable : {n : ℕ} → a.told ≡ W.Wrote n → Writable tables counts
+  pub wrote_writable : {n : ℕ} → a.told ≡ Ok n → Writable tables counts
   wrote_writable {n} e = not_fifteen (λ q. other (sym e ∙ q))
     where
-      other : {i : ℕ} → W.Wrote i ≡ W.Refused (bare 15) → ⊥
+      other : {i : ℕ} → Ok i ≡ Err (bare 15) → ⊥
       other q = let z : ◌≡◌ {A = ℕ} 0 1 = cc in omega arith
 
-  pub wrote_words : {n : ℕ} → a.told ≡ W.Wrote n → a ≡ wrote (words_for tables counts token) m
+  pub wrote_words : {n : ℕ} → a.told ≡ Ok n → a ≡ wrote (words_for tables counts token) m
   wrote_words {n} e =
       let w = wrote_writable e in
       ⊎_elim (h.words w) (λ k. absurd (other (sym e ∙ ap (λ (x : Writing). x.told) (h.sixteen w k)))) (order (length (words_for tables counts token)) m)
     where
-      other : {i : ℕ} → W.Wrote i ≡ W.Refused (bare 16) → ⊥
+      other : {i : ℕ} → Ok i ≡ Err (bare 16) → ⊥
       other q = let z : ◌≡◌ {A = ℕ} 0 1 = cc in omega arith
 
   -- 16 is given of what can be written alone, and where the output is too short
-  pub sixteen_only : a.told ≡ W.Refused (bare 16) → Writable tables counts × (m < length (words_for tables counts token))
+  pub sixteen_only : a.told ≡ Err (bare 16) → Writable tables counts × (m < length (words_for tables counts token))
   sixteen_only e = (w, ⊎_elim (λ (k : length (words_for tables counts token) ≤ m). absurd (other (sym e ∙ ap (λ (x : Writing). x.told) (h.words w k)))) (λ k. k) (order (length (words_for tables counts token)) m))
     where
-      other : {i : ℕ} → W.Refused (bare 16) ≡ W.Wrote i → ⊥
+      other : {i : ℕ} → Err (bare 16) ≡ Ok i → ⊥
       other q = let z : ◌≡◌ {A = ℕ} 0 1 = cc in omega arith
 
-      another : W.Refused (bare 16) ≡ W.Refused (bare 15) → ⊥
+      another : ◌≡◌ {A = Written} (Err (bare 16)) (Err (bare 15)) → ⊥
       another q = let z = ap (λ (w : Written). (of_written w).number) q in omega arith
 
       w : Writable tables counts
@@ -197,7 +195,7 @@ module _ (lent : Table → ℕ) (ws : List ℤ) (at : ℕ) (c : Counts) (a : Acc
   unfolding counts_of
   again_is = (λ i. words_for (λ t. left_is t i) (records-counted (sym a.counted i)) (sym a.counted i).token) ∙ table_words a.read (a.behind - at) lent
 
-  same_answer : decoded lent (written a.read) 0 ≡ record { told = D.Accepted (counts_of a.read (length (written a.read))); left = table a.read lent }
+  same_answer : decoded lent (written a.read) 0 ≡ record { told = Ok (counts_of a.read (length (written a.read))); left = table a.read lent }
   unfolding decoded table
   same_answer =
       let d = decodes-again lent ws at a.read a.behind a.ran in
@@ -205,11 +203,11 @@ module _ (lent : Table → ℕ) (ws : List ℤ) (at : ℕ) (c : Counts) (a : Acc
       let k = plain-counts a.read (length (written a.read) - 0) in
       let z : length (written a.read) - 0 ≡ length (written a.read) = omega arith in
       ap (answer lent 0) d.0
-      ∙ (λ i. record { told = D.Accepted (k i); left = λ t. flat (q t i) ++ zeros (lent t - length (flat (q t i))) })
-      ∙ (λ i. record { told = D.Accepted (counts_of a.read (z i)); left = table a.read lent })
+      ∙ (λ i. record { told = Ok (k i); left = λ t. flat (q t i) ++ zeros (lent t - length (flat (q t i))) })
+      ∙ (λ i. record { told = Ok (counts_of a.read (z i)); left = table a.read lent })
 
 -- a decode's tables are never refused with 15
-pub accepted_writable : (lent : Table → ℕ) (ws : List ℤ) (at : ℕ) (c : Counts) → (decoded lent ws at).told ≡ D.Accepted c → Writable (decoded lent ws at).left (records-counted c)
+pub accepted_writable : (lent : Table → ℕ) (ws : List ℤ) (at : ℕ) (c : Counts) → (decoded lent ws at).told ≡ Ok c → Writable (decoded lent ws at).left (records-counted c)
 unfolding counts_of
 accepted_writable lent ws at c e =
     record {
@@ -252,18 +250,18 @@ accepted_writable lent ws at c e =
     fit Scratch = le-leb 0 (length ((decoded lent ws at).left Scratch) / 4) (omega arith)
 
 -- "Decoding what was written, with the same room, gives the same records": the same tables, and the same counts but for the words read
-pub rewritten : (lent : Table → ℕ) (ws : List ℤ) (at : ℕ) (c : Counts) → (decoded lent ws at).told ≡ D.Accepted c
-    → decoded lent (again lent ws at c) 0 ≡ record { told = D.Accepted (after c (length (again lent ws at c))); left = (decoded lent ws at).left }
+pub rewritten : (lent : Table → ℕ) (ws : List ℤ) (at : ℕ) (c : Counts) → (decoded lent ws at).told ≡ Ok c
+    → decoded lent (again lent ws at c) 0 ≡ record { told = Ok (after c (length (again lent ws at c))); left = (decoded lent ws at).left }
 unfolding counts_of
 rewritten lent ws at c e =
     let a = accepting lent ws at c e in
     ap (λ (x : List ℤ). decoded lent x 0) (again_is lent ws at c a)
     ∙ same_answer lent ws at c a
-    ∙ (λ i. record { told = D.Accepted (after (a.counted i) (length (sym (again_is lent ws at c a) i))); left = λ t. sym (left_is lent ws at c a t) i })
+    ∙ (λ i. record { told = Ok (after (a.counted i) (length (sym (again_is lent ws at c a) i))); left = λ t. sym (left_is lent ws at c a t) i })
 
 -- "two accepted word lists give the same written words exactly when they gave the same records and max token type"
-pub same-again : (lent : Table → ℕ) (ws : List ℤ) (at : ℕ) (c : Counts) → (decoded lent ws at).told ≡ D.Accepted c
-    → (lent' : Table → ℕ) (ws' : List ℤ) (at' : ℕ) (c' : Counts) → (decoded lent' ws' at').told ≡ D.Accepted c'
+pub same-again : (lent : Table → ℕ) (ws : List ℤ) (at : ℕ) (c : Counts) → (decoded lent ws at).told ≡ Ok c
+    → (lent' : Table → ℕ) (ws' : List ℤ) (at' : ℕ) (c' : Counts) → (decoded lent' ws' at').told ≡ Ok c'
     → again lent ws at c ≡ again lent' ws' at' c' ↔ ((t : Table) → held lent ws at c t ≡ held lent' ws' at' c' t) × (c.token ≡ c'.token)
 unfolding counts_of
 same-again lent ws at c e lent' ws' at' c' e' = (to, fro)
@@ -311,7 +309,7 @@ roomed_by rooms r few =
 -- what is decoded of the words of any writable tables, in any room that their records have: those records, and that max token type
 pub record Reads (lent : Table → ℕ) (ws : List ℤ) (T : Table → List (List ℤ)) (token : ℤ) : Type 0 where
   pub counts : Counts
-  pub told : (decoded lent ws 0).told ≡ D.Accepted counts
+  pub told : (decoded lent ws 0).told ≡ Ok counts
   pub words : counts.words ≡ length ws
   pub token_is : counts.token ≡ token
   pub records_are : (t : Table) → given (decoded lent ws 0).left (records-counted counts) t ≡ T t

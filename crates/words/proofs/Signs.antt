@@ -1,6 +1,6 @@
 -- Signed words: what the sign test, the casts and a store through a field leave.
-use mathlib.Core.Path.{◌≡◌, refl, sym, ◌∙◌}
-use mathlib.Core.Bool.{true, false}
+use mathlib.Core.Path.{◌≡◌}
+use mathlib.Core.Bool.{false}
 use Prim.Native.Nat.{ℕ, zero, suc, ◌<◌, ◌^◌}
 use native.Mathlib.Omega.{arith}
 use lib.Dec.{T}
@@ -9,18 +9,6 @@ use lib.Signed.{mag, lt_z, non_neg}
 use mir.Syntax.{w32, w64}
 use mir.Val.{SFits, Fits, to_z, of_z}
 use mir.ValLaws.{to_z-of_z}
-use borrow.Author.Tests.{ltb-true}
-use Rattle.words.specs.declared.Sign.{Sign}
-use Rattle.words.specs.declared.Sign.TheVariants.{Natural, Negative}
-use Rattle.words.specs.Signs.{sign_of}
-
-pub sign_neg : (z : ℤ) → lt_z z (pos 0) ≡ true → Negative ≡ sign_of z
-sign_neg (pos n) t = absurd (let h : n < 0 = ltb-true n 0 t in omega arith)
-sign_neg (negsuc n) t = refl
-
-pub sign_nat : (z : ℤ) → lt_z z (pos 0) ≡ false → Natural (nat_abs z) ≡ sign_of z
-sign_nat (pos n) t = refl
-sign_nat (negsuc n) t = absurd (let e : ◌≡◌ {A = ℕ} 0 1 = cc in omega arith)
 
 pub fits_nat : (z : ℤ) → SFits w32 z → lt_z z (pos 0) ≡ false → T (non_neg z) × Fits w64 (nat_abs z)
 fits_nat (pos n) f t = (tt, record { fits = let h : n < 2 ^ 31 = f.sfits in omega arith })
@@ -35,10 +23,6 @@ back32 z h = to_z-of_z w32 z (record { sfits = h })
 
 pub back64 : (z : ℤ) → mag z < 2 ^ 63 → to_z w64 (of_z w64 z) ≡ z
 back64 z h = to_z-of_z w64 z (record { sfits = h })
-
--- the sign that was told of a word that went through a local
-pub its_sign : (z : ℤ) {s t : Sign} → mag z < 2 ^ 31 → s ≡ sign_of (to_z w32 (of_z w32 z)) → s ≡ t → sign_of z ≡ t
-its_sign z h e f = sym (rw (back32 z h) at e) ∙ f
 
 -- one more than a word fits twice the width
 pub one_more_lem : (z : ℤ) → SFits w32 z → SFits w64 (z +ℤ pos 1)

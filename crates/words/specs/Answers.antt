@@ -1,27 +1,26 @@
 -- What each answer of the code says, as an outcome of a reading program.
-use Rattle.std.specs.Prelude.{ℕ, ◌<◌, ℤ}
+use Rattle.std.specs.Prelude.{ℕ, ◌<◌, Result, Ok, Err}
 use Rattle.format.specs.Reading.{Outcome, ok, no}
-use Rattle.words.specs.declared.Word.{Word}
-use Rattle.words.specs.declared.Word.TheVariants as W
-use Rattle.words.specs.declared.Index.{Index}
-use Rattle.words.specs.declared.Index.TheVariants as I
-use Rattle.words.specs.declared.Step.{Step}
-use Rattle.words.specs.declared.Step.TheVariants as S
+use Rattle.format.specs.declared.Refusal.{Refusal}
 
-abbrev pub outcome : Word → Outcome ℤ
-outcome (W.Got v n) = ok v n
-outcome (W.Refused r) = no r
+-- What was read, and the place of the next word; or why not.
+abbrev pub Read : Type 0 → Type 0
+Read A = Result (A × ℕ) Refusal
 
-abbrev pub outcome_ix : Index → Outcome ℕ
-outcome_ix (I.Got v n) = ok v n
-outcome_ix (I.Refused r) = no r
+-- The place of the next word, or why not.
+abbrev pub Step : Type 0
+Step = Result ℕ Refusal
+
+abbrev pub outcome : {A : Type 0} → Read A → Outcome A
+outcome (Ok (v, n)) = ok v n
+outcome (Err r) = no r
 
 -- A step, with what it left behind: on a refusal nothing is said of that.
 abbrev pub told : {X : Type 0} → Step → X → Outcome X
-told (S.Next n) x = ok x n
-told (S.Refused r) x = no r
+told (Ok n) x = ok x n
+told (Err r) x = no r
 
 -- An index that was got is below k.
-abbrev pub Below : ℕ → Index → Type 0
-Below k (I.Got v n) = v < k
-Below k (I.Refused r) = Unit {0}
+abbrev pub Below : ℕ → Read ℕ → Type 0
+Below k (Ok (v, n)) = v < k
+Below k (Err r) = Unit {0}

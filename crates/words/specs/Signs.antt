@@ -1,8 +1,6 @@
--- The sign of a word, as a case to match on.
-use Rattle.std.specs.Prelude.{ℤ, pos, negsuc}
-use Rattle.words.specs.declared.Sign.{Sign}
-use Rattle.words.specs.declared.Sign.TheVariants.{Natural, Negative}
+-- A word as an index.
+use Rattle.std.specs.Prelude.{ℕ, ℤ, pos, negsuc, Option, Some, None}
 
-abbrev pub sign_of : ℤ → Sign
-sign_of (pos n) = Natural n
-sign_of (negsuc n) = Negative
+abbrev pub index_of : ℤ → Option ℕ
+index_of (pos n) = Some n
+index_of (negsuc n) = None

@@ -1,5 +1,5 @@
-// Document 01, "Reading order and fields" and "Refusal numbers": one word is read, and one word is tested.
-// The only place that touches a word's sign: everything above goes by `Index`, `Sign` and ℤ.
+// Document 01, "Reading order and fields" and "Refusal numbers": one word is read, and one word is tested. A word and a place are passed by
+// value (document 01, "What must change shape").
 // From the Rust's atn/serialized.rs: `read`, `read_usize`, `read_index`.
 
 #![tactic(auto)]
@@ -7,50 +7,26 @@
 ghost use Rattle.std.specs.Prelude.{◌≡◌, List, ℕ, ◌+◌, ◌<◌, ◌^◌, ℤ, pos};
 ghost use Rattle.format.specs.Reading.{Table, run, get, index, count, natural, known as isKnown, listed as isListed, refusal, bare as is_bare};
 ghost use Rattle.format.specs.Sections.{raised as isRaised, or_none};
-ghost use Rattle.words.specs.Signs.{sign_of};
-ghost use Rattle.words.specs.Answers.{outcome, outcome_ix, Below};
+ghost use Rattle.words.specs.Signs.{index_of};
+ghost use Rattle.words.specs.Answers.{outcome, Below};
 
+use format::reason::Reason;
 use format::{Refusal, Spot};
 
-// A word and the place of the next, or why not.
-#[derive(Clone, Copy)]
-pub enum Word {
-    Got(i32, usize),
-    Refused(Refusal),
-}
-
-// A word that is not negative and the place of the next, or why not.
-#[derive(Clone, Copy)]
-pub enum Index {
-    Got(usize, usize),
-    Refused(Refusal),
-}
+// What was read, and the place of the next word; or why not.
+pub type Read<T> = Result<(T, usize), Refusal>;
 
 // The place of the next word, or why not: what a part of a section answers that leaves its words in a table.
-#[derive(Clone, Copy)]
-pub enum Step {
-    Next(usize),
-    Refused(Refusal),
-}
+pub type Step = Result<usize, Refusal>;
 
-#[derive(Clone, Copy)]
-pub enum Sign {
-    Natural(usize),
-    Negative,
-}
-
-// The sign of a word, and its size as an index.
-pub fn sign_of(x: i32) -> Sign
-    ensures { result ≡ sign_of x }
+// A word as an index; none if it is negative.
+pub fn index_of(x: i32) -> Option<usize>
+    ensures { result ≡ index_of x }
 {
-    if x < 0 {
-        Sign::Negative
-    } else {
-        Sign::Natural(x as usize)
-    }
+    usize::try_from(x).ok()
 }
 
-// An index as a word.
+// An index as a word. (By `as`, which is proved to lose nothing: `try_from` would answer an error that can't be.)
 pub fn word_of(n: usize) -> i32
     requires { n < 2 ^ 31 }
     ensures { result ≡ pos n }
@@ -58,31 +34,18 @@ pub fn word_of(n: usize) -> i32
     n as i32
 }
 
-// A word, wider.
-pub fn wide(x: i32) -> i64
-    ensures { result ≡ x }
-{
-    x as i64
-}
-
 // Whether a word is not 0.
 pub fn raised(c: i32) -> bool
     ensures { result ≡ isRaised c }
 {
-    match sign_of(c) {
-        Sign::Natural(n) => n != 0,
-        Sign::Negative => true,
-    }
+    c != 0
 }
 
 // A word, or none if it is negative.
 pub fn or_none(b: i32) -> i32
     ensures { result ≡ or_none b }
 {
-    match sign_of(b) {
-        Sign::Natural(_) => b,
-        Sign::Negative => -1,
-    }
+    if b < 0 { -1 } else { b }
 }
 
 // The refusal of the word `value`.
@@ -94,7 +57,7 @@ pub fn refused(number: u32, spot: Spot, place: usize, value: i32) -> Refusal
         field: spot.field,
         record: spot.record,
         place,
-        value: wide(value),
+        value: i64::from(value),
     }
 }
 
@@ -102,46 +65,36 @@ pub fn refused(number: u32, spot: Spot, place: usize, value: i32) -> Refusal
 pub fn bare(number: u32) -> Refusal
     ensures { result ≡ is_bare number }
 {
-    refused(
-        number,
-        Spot {
-            field: 0,
-            record: 0,
-        },
-        0,
-        0,
-    )
+    let nowhere = Spot {
+        field: 0,
+        record: 0,
+    };
+    refused(number, nowhere, 0, 0)
 }
 
 // The next word.
-pub fn read(words: &[i32], at: usize, spot: Spot) -> Word
+pub fn read(words: &[i32], at: usize, spot: Spot) -> Read<i32>
     ensures { (rooms : Table → ℕ) → outcome result ≡ run (get spot) words.now rooms at }
 {
-    if at < words.len() {
-        Word::Got(words[at], at + 1)
-    } else {
-        Word::Refused(Refusal {
-            number: 1,
-            field: spot.field,
-            record: spot.record,
-            place: words.len(),
-            value: 0,
-        })
+    match words.get(at) {
+        Some(&word) => Ok((word, at + 1)),
+        None => Err(refused(Reason::Ended as u32, spot, words.len(), 0)),
     }
 }
 
 // A word that was read, as an index: refusal 2 if it is negative.
-pub fn read_index(value: i32, spot: Spot, place: usize, next: usize) -> Index
-    ensures says { (ws : List ℤ) (rooms : Table → ℕ) → outcome_ix result ≡ run (natural spot place value) ws rooms next }
+pub fn read_index(value: i32, spot: Spot, place: usize, next: usize) -> Read<usize>
+    ensures says { (ws : List ℤ) (rooms : Table → ℕ) → outcome result ≡ run (natural spot place value) ws rooms next }
     ensures bounded { Below (2 ^ 31) result }
 {
-    match sign_of(value) {
-        Sign::Natural(n) => Index::Got(n, next),
-        Sign::Negative => Index::Refused(refused(2, spot, place, value)),
+    match index_of(value) {
+        Some(n) => Ok((n, next)),
+        None => Err(refused(Reason::Negative as u32, spot, place, value)),
     }
 }
 
-// A word that was read, if it is one of from to to; else the refusal with that number.
+// A word that was read, if it is one of from to to; else the refusal with that number. (Its spot, its place and the next one are passed by
+// value, as everywhere in the decoder: document 01, "What must change shape".)
 pub fn known(
     value: i32,
     number: u32,
@@ -150,63 +103,56 @@ pub fn known(
     spot: Spot,
     place: usize,
     next: usize,
-) -> Index
+) -> Read<usize>
     requires { to < 2 ^ 31 }
-    ensures says { (ws : List ℤ) (rooms : Table → ℕ) → outcome_ix result ≡ run (isKnown number from to spot place value) ws rooms next }
+    ensures says { (ws : List ℤ) (rooms : Table → ℕ) → outcome result ≡ run (isKnown number from to spot place value) ws rooms next }
     ensures bounded { Below (to + 1) result }
 {
-    match sign_of(value) {
-        Sign::Natural(n) => {
-            if n < from {
-                return Index::Refused(refused(number, spot, place, value));
-            }
-            if to < n {
-                return Index::Refused(refused(number, spot, place, value));
-            }
-            Index::Got(n, next)
-        }
-        Sign::Negative => Index::Refused(refused(number, spot, place, value)),
+    match index_of(value) {
+        Some(n) if from <= n && n <= to => Ok((n, next)),
+        _ => Err(refused(number, spot, place, value)),
     }
 }
 
 // An index that was read, if it is below `end`; else the refusal with that number.
-pub fn listed(n: usize, number: u32, end: usize, spot: Spot, place: usize, next: usize) -> Index
+pub fn listed(
+    n: usize,
+    number: u32,
+    end: usize,
+    spot: Spot,
+    place: usize,
+    next: usize,
+) -> Read<usize>
     requires { n < 2 ^ 31 }
-    ensures says { (ws : List ℤ) (rooms : Table → ℕ) → outcome_ix result ≡ run (isListed number end spot place n) ws rooms next }
+    ensures says { (ws : List ℤ) (rooms : Table → ℕ) → outcome result ≡ run (isListed number end spot place n) ws rooms next }
     ensures bounded { Below end result }
 {
     if n < end {
-        Index::Got(n, next)
+        Ok((n, next))
     } else {
-        Index::Refused(refused(number, spot, place, word_of(n)))
+        Err(refused(number, spot, place, word_of(n)))
     }
 }
 
 // The next word as an index.
-pub fn read_usize(words: &[i32], at: usize, spot: Spot) -> Index
-    ensures says { (rooms : Table → ℕ) → outcome_ix result ≡ run (index spot) words.now rooms at }
+pub fn read_usize(words: &[i32], at: usize, spot: Spot) -> Read<usize>
+    ensures says { (rooms : Table → ℕ) → outcome result ≡ run (index spot) words.now rooms at }
     ensures bounded { Below (2 ^ 31) result }
 {
-    match read(words, at, spot) {
-        Word::Got(v, next) => read_index(v, spot, at, next),
-        Word::Refused(r) => Index::Refused(r),
-    }
+    let (value, next) = read(words, at, spot)?;
+    read_index(value, spot, at, next)
 }
 
 // A count of records, for which there must be room: refusal 12 if there is not.
-pub fn read_count(words: &[i32], at: usize, field: u32, room: usize) -> Index
-    ensures says { (rooms : Table → ℕ) (t : Table) → rooms t ≡ room → outcome_ix result ≡ run (count t field) words.now rooms at }
+pub fn read_count(words: &[i32], at: usize, field: u32, room: usize) -> Read<usize>
+    ensures says { (rooms : Table → ℕ) (t : Table) → rooms t ≡ room → outcome result ≡ run (count t field) words.now rooms at }
     ensures bounded { Below (room + 1) result }
 {
     let spot = Spot { field, record: 0 };
-    match read_usize(words, at, spot) {
-        Index::Got(n, next) => {
-            if n <= room {
-                Index::Got(n, next)
-            } else {
-                Index::Refused(refused(12, spot, at, word_of(n)))
-            }
-        }
-        Index::Refused(r) => Index::Refused(r),
+    let (n, next) = read_usize(words, at, spot)?;
+    if n <= room {
+        Ok((n, next))
+    } else {
+        Err(refused(Reason::NoRoom as u32, spot, at, word_of(n)))
     }
 }
