@@ -3,6 +3,7 @@ pub mod Records
 pub mod Chains
 pub mod Own
 pub mod Search
+pub mod Networks
 pub mod Steps
 pub mod Visits
 pub mod Marks

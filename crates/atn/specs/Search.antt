@@ -11,10 +11,19 @@ use Rattle.format.specs.Links.{first, chain, state_at, stops, target_of}
 use Rattle.laws.specs.Own.{Own}
 use Rattle.laws.specs.Chains.{Mem}
 use Rattle.tables.specs.Words.{number_at}
+use Rattle.atn.specs.declared.search.Colour.{Colour}
+use Rattle.atn.specs.declared.search.Colour.TheVariants.{Unmet, OnStack, Safe, Unsafe}
 use Rattle.atn.specs.Own.{rule_at, stop_at, degree, Leads, Way, own-leads, leads-own, Into, no_cycle}
 
 abbrev pub colour : List ℤ → ℕ → ℕ
 colour sc s = number_at sc (4 * s)
+
+-- the colours by name
+abbrev pub colour_number : Colour → ℕ
+colour_number Unmet = 0
+colour_number OnStack = 1
+colour_number Safe = 2
+colour_number Unsafe = 3
 
 abbrev pub left : List ℤ → ℕ → ℕ
 left sc s = number_at sc (4 * s + 2)

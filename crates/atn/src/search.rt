@@ -1,25 +1,56 @@
 // Which states are safe for their own rule (document 01, "Tail call"): a search in depth on four scratch words a state, its colour,
 // its next edge, how many of its edges are left, and the state below it on the stack. It begins where it is asked of a state, since most
-// states are never asked of. Colours: 0 not met, 1 on the stack, 2 safe, 3 not safe. They stay from one search to the next, so that all
-// searches together are linear in states and edges.
+// states are never asked of. Colours stay from one search to the next, so that all searches together are linear in states and edges.
 // From the Rust's atn/mod.rs: `plain_epsilon_tail_call`'s meaning.
 
-ghost use Rattle.std.specs.Prelude.{◌≡◌, true, ◌↔◌, ◌+◌, ◌-◌, ◌*◌, ◌<◌, ◌≤◌, ◌^◌, pos, length, get_or, set};
+ghost use Rattle.std.specs.Prelude.{◌≡◌, true, ◌↔◌, ◌+◌, ◌-◌, ◌*◌, ◌<◌, ◌≤◌, ◌^◌, pos, length, get_or, set, MatchOption};
 ghost use Rattle.laws.specs.Own.{Own};
 ghost use Rattle.tables.specs.Words.{number_at};
-ghost use Rattle.atn.specs.Records.{states_of, edges_of, edge_at, Chained, Stopped, Linked};
-ghost use Rattle.atn.specs.Search.{colour, below, pushed, first_colour, Idle, Stepped, Met};
-ghost use Rattle.atn.specs.Visits.{plain_target, Ready};
+ghost use Rattle.atn.specs.Records.{edge_at};
+ghost use Rattle.atn.specs.Search.{colour, colour_number, below, pushed, first_colour, Running, Stepped, Met};
+ghost use Rattle.atn.specs.Networks.{states_in, edges_in, IdleIn};
+ghost use Rattle.atn.specs.Visits.{plain_target};
+
+use crate::network::Network;
+use format::kinds::{EdgeKind, StateKind};
+use format::{edge, rule, state};
+use tables::SCRATCH;
+
+// What is known of a state. The scratch holds its number.
+#[derive(Clone, Copy)]
+enum Colour {
+    Unmet,
+    OnStack,
+    Safe,
+    Unsafe,
+}
+
+// The words of a state's scratch behind its colour.
+const NEXT: usize = 1;
+
+const LEFT: usize = 2;
+
+const BELOW: usize = 3;
 
 // State s goes on the stack, above `below`: at its first edge, with all its edges left.
 fn push(states: &[i32], scratch: &mut [i32], s: usize, below: usize)
     requires { (8 * s + 8 ≤ length states.now) × ((4 * s + 4 ≤ length scratch.old) × (below < 2 ^ 31)) }
     ensures { scratch.new ≡ pushed scratch.old s (get_or states.now (8 * s + 5) (pos 0)) (get_or states.now (8 * s + 7) (pos 0)) below }
 {
-    tables::store(scratch, 4 * s, 1);
-    tables::copy_word(scratch, 4 * s + 1, states, 8 * s + 5);
-    tables::copy_word(scratch, 4 * s + 2, states, 8 * s + 7);
-    tables::store(scratch, 4 * s + 3, below);
+    tables::store(scratch, SCRATCH * s, Colour::OnStack as usize);
+    tables::copy_word(
+        scratch,
+        SCRATCH * s + NEXT,
+        states,
+        state::WIDTH * s + state::FIRST,
+    );
+    tables::copy_word(
+        scratch,
+        SCRATCH * s + LEFT,
+        states,
+        state::WIDTH * s + state::COUNT,
+    );
+    tables::store(scratch, SCRATCH * s + BELOW, below);
 }
 
 // State s passes its next edge e, and goes on to the one behind it.
@@ -27,174 +58,143 @@ fn pass(edges: &[i32], scratch: &mut [i32], s: usize, e: usize, left: usize)
     requires { (8 * e + 8 ≤ length edges.now) × ((4 * s + 4 ≤ length scratch.old) × ((0 < left) × (left < 2 ^ 31))) }
     ensures { scratch.new ≡ set (set scratch.old (4 * s + 1) (get_or edges.now (8 * e + 7) (pos 0))) (4 * s + 2) (pos (left - 1)) }
 {
-    tables::copy_word(scratch, 4 * s + 1, edges, 8 * e + 7);
-    tables::store(scratch, 4 * s + 2, left - 1);
+    tables::copy_word(
+        scratch,
+        SCRATCH * s + NEXT,
+        edges,
+        edge::WIDTH * e + edge::NEXT,
+    );
+    tables::store(scratch, SCRATCH * s + LEFT, left - 1);
 }
 
 // State s gets its last colour, and leaves the stack: answers the new top.
-fn settle(scratch: &mut [i32], s: usize, colour: usize) -> usize
-    requires { (4 * s + 4 ≤ length scratch.old) × (colour < 2 ^ 31) }
-    ensures { (result ≡ below scratch.old s) × (scratch.new ≡ set scratch.old (4 * s) (pos colour)) }
+fn settle(scratch: &mut [i32], s: usize, colour: Colour) -> usize
+    requires { 4 * s + 4 ≤ length scratch.old }
+    ensures { (result ≡ below scratch.old s) × (scratch.new ≡ set scratch.old (4 * s) (pos (colour_number colour))) }
 {
-    let top = tables::number_at(scratch, 4 * s + 3);
-    tables::store(scratch, 4 * s, colour);
+    let top = tables::number_at(scratch, SCRATCH * s + BELOW);
+    tables::store(scratch, SCRATCH * s, colour as usize);
     top
 }
 
-// The target of edge e out of state s, where it is of type 1 and leads to a listed state of the same rule; else n.
-fn plain_target(states: &[i32], edges: &[i32], n: usize, m: usize, s: usize, e: usize) -> usize
-    requires chained { Chained (states_of n states.now) (edges_of m edges.now) n m states.now edges.now }
-    requires s_lt_n { (s < n) × ((e < m) × (number_at states.now (8 * s + 1) < 2 ^ 31)) }
-    ensures { result ≡ plain_target (states_of n states.now) s (edge_at (edges_of m edges.now) e) }
+// The target of edge e out of state s, where it is of type 1 and leads to a listed state of the same rule.
+fn plain_target(network: &Network, s: usize, e: usize) -> Option<usize>
+    requires listed { (s < network.now.state_count) × (e < network.now.edge_count) × (number_at network.now.states.now (8 * s + 1) < 2 ^ 31) }
+    ensures { MatchOption result (network.now.state_count ≡ plain_target (states_in network.now) s (edge_at (edges_in network.now) e)) (λ t. (t ≡ plain_target (states_in network.now) s (edge_at (edges_in network.now) e)) × (t < network.now.state_count)) }
 {
-    let kind = tables::number_at(edges, 8 * e);
-    if kind != 1 {
-        return n;
+    let kind = tables::number_at(network.edges, edge::WIDTH * e + edge::KIND);
+    if kind != EdgeKind::Epsilon as usize {
+        return None;
     }
-    let t = tables::number_at(edges, 8 * e + 2);
-    if t >= n {
-        return n;
+    let t = tables::number_at(network.edges, edge::WIDTH * e + edge::TARGET);
+    if t >= network.state_count {
+        return None;
     }
-    let ours = tables::number_at(states, 8 * s + 1);
-    let theirs = tables::number_at(states, 8 * t + 1);
+    let ours = tables::number_at(network.states, state::WIDTH * s + state::RULE);
+    let theirs = tables::number_at(network.states, state::WIDTH * t + state::RULE);
     if theirs != ours {
-        return n;
+        return None;
     }
-    t
+    Some(t)
 }
 
-// The colour that state s gets when it is met; 0 where its edges decide.
-fn first_colour(states: &[i32], rules: &[i32], n: usize, k: usize, s: usize) -> usize
-    requires s_lt_n { (s < n) × ((n < 2 ^ 31) × (8 * n ≤ length states.now)) }
-    requires stopped { Stopped (states_of n states.now) k rules.now }
-    ensures { result ≡ first_colour (states_of n states.now) k (number_at states.now (8 * s + 7)) s }
+// The colour that state s gets when it is met; none yet where its edges decide.
+fn first_colour(network: &Network, s: usize) -> Colour
+    requires { s < network.now.state_count }
+    ensures { colour_number result ≡ first_colour (states_in network.now) network.now.rule_count (number_at network.now.states.now (8 * s + 7)) s }
 {
-    let rule = tables::number_at(states, 8 * s + 1);
-    if rule >= k {
-        return 3;
+    let at = state::WIDTH * s;
+    let rule = tables::number_at(network.states, at + state::RULE);
+    if rule >= network.rule_count {
+        return Colour::Unsafe;
     }
-    let stop = tables::number_at(rules, 3 * rule + 1);
-    if stop >= n {
-        return 3;
+    let stop = tables::number_at(network.rules, rule::WIDTH * rule + rule::STOP);
+    if stop >= network.state_count {
+        return Colour::Unsafe;
     }
     if stop == s {
-        return 2;
+        return Colour::Safe;
     }
-    let kind = tables::number_at(states, 8 * s);
-    if kind == 7 {
-        return 3;
+    let kind = tables::number_at(network.states, at + state::KIND);
+    if kind == StateKind::RuleStop as usize {
+        return Colour::Unsafe;
     }
-    let count = tables::number_at(states, 8 * s + 7);
+    let count = tables::number_at(network.states, at + state::COUNT);
     if count == 0 {
-        return 3;
+        return Colour::Unsafe;
     }
-    0
+    Colour::Unmet
 }
 
 // State t, which was not met before, is met from the top of the stack: its colour is known at once, or it goes on the stack.
 // Answers the new top.
-fn meet(
-    states: &[i32],
-    rules: &[i32],
-    scratch: &mut [i32],
-    n: usize,
-    k: usize,
-    t: usize,
-    top: usize,
-) -> usize
-    requires t_lt_n { (t < n) × ((n < 2 ^ 31) × (8 * n ≤ length states.now)) }
-    requires n_in_bounds { (4 * n ≤ length scratch.old) × (top < 2 ^ 31) }
-    requires stopped { Stopped (states_of n states.now) k rules.now }
-    ensures { Met (states_of n states.now) k states.now scratch.old scratch.new t top result }
+fn meet(network: &Network, scratch: &mut [i32], t: usize, top: usize) -> usize
+    requires { (t < network.now.state_count) × (4 * network.now.state_count ≤ length scratch.old) × (top < 2 ^ 31) }
+    ensures { Met (states_in network.now) network.now.rule_count network.now.states.now scratch.old scratch.new t top result }
 {
-    let colour = first_colour(states, rules, n, k, t);
-    if colour == 0 {
-        push(states, scratch, t, top);
-        return t;
+    match first_colour(network, t) {
+        Colour::Unmet => {
+            push(network.states, scratch, t, top);
+            t
+        }
+        colour => {
+            tables::store(scratch, SCRATCH * t, colour as usize);
+            top
+        }
     }
-    tables::store(scratch, 4 * t, colour);
-    top
 }
 
-// One step, at state s on top of the stack: answers the new top, n where the stack is empty.
-fn visit(
-    states: &[i32],
-    edges: &[i32],
-    rules: &[i32],
-    scratch: &mut [i32],
-    n: usize,
-    m: usize,
-    k: usize,
-    s: usize,
-) -> usize
-    requires { Ready (states_of n states.now) (edges_of m edges.now) n m k states.now edges.now rules.now scratch.old s }
-    ensures { Stepped (states_of n states.now) k (edges_of m edges.now) scratch.old scratch.new result }
+// One step, at state s on top of the stack: answers the new top, the number of all states where the stack is empty.
+fn visit(network: &Network, scratch: &mut [i32], s: usize) -> usize
+    requires runs { Running (states_in network.now) network.now.rule_count (edges_in network.now) scratch.old s }
+    requires listed { s < network.now.state_count }
+    ensures { Stepped (states_in network.now) network.now.rule_count (edges_in network.now) scratch.old scratch.new result }
 {
-    let left = tables::number_at(scratch, 4 * s + 2);
+    let left = tables::number_at(scratch, SCRATCH * s + LEFT);
     if left == 0 {
-        return settle(scratch, s, 2);
+        return settle(scratch, s, Colour::Safe);
     }
-    let e = tables::number_at(scratch, 4 * s + 1);
-    let t = plain_target(states, edges, n, m, s, e);
-    if t == n {
-        return settle(scratch, s, 3);
-    }
-    let colour = tables::number_at(scratch, 4 * t);
-    if colour == 2 {
-        pass(edges, scratch, s, e, left);
+    let e = tables::number_at(scratch, SCRATCH * s + NEXT);
+    let Some(t) = plain_target(network, s, e) else {
+        return settle(scratch, s, Colour::Unsafe);
+    };
+    let colour = tables::number_at(scratch, SCRATCH * t);
+    if colour == Colour::Safe as usize {
+        pass(network.edges, scratch, s, e, left);
         return s;
     }
-    if colour == 0 {
-        return meet(states, rules, scratch, n, k, t, s);
+    if colour == Colour::Unmet as usize {
+        return meet(network, scratch, t, s);
     }
-    settle(scratch, s, 3)
+    settle(scratch, s, Colour::Unsafe)
 }
 
-// The search from state s, which was not met before, until the stack is empty again.
-fn search_from(
-    states: &[i32],
-    edges: &[i32],
-    rules: &[i32],
-    scratch: &mut [i32],
-    n: usize,
-    m: usize,
-    k: usize,
-    s: usize,
-)
-    requires linked { Linked states.now edges.now rules.now n m k }
-    requires idle { Idle (states_of n states.now) k (edges_of m edges.now) scratch.old }
-    requires s_lt_n { (s < n) × (colour scratch.old s ≡ 0) }
-    ensures idle_2 { Idle (states_of n states.now) k (edges_of m edges.now) scratch.new }
-    ensures s_nonzero { 0 < colour scratch.new s }
+// The search from state s, which was not met before, until the stack is empty again. No Option says that it is empty, since the top is a
+// word of the scratch: the number of all states, which numbers none.
+fn search_from(network: &Network, scratch: &mut [i32], s: usize)
+    requires idle { IdleIn network.now scratch.old }
+    requires unmet { (s < network.now.state_count) × (colour scratch.old s ≡ 0) }
+    ensures idle_again { IdleIn network.now scratch.new }
+    ensures met { 0 < colour scratch.new s }
 {
-    let mut top = meet(states, rules, scratch, n, k, s, n);
-    while top != n {
-        top = visit(states, edges, rules, scratch, n, m, k, top);
+    let empty = network.state_count;
+    let mut top = meet(network, scratch, s, empty);
+    while top != empty {
+        top = visit(network, scratch, top);
     }
 }
 
 // Whether state s is safe for its own rule: by its colour, where an earlier search met it.
-pub fn is_safe(
-    states: &[i32],
-    edges: &[i32],
-    rules: &[i32],
-    scratch: &mut [i32],
-    n: usize,
-    m: usize,
-    k: usize,
-    s: usize,
-) -> bool
-    requires linked { Linked states.now edges.now rules.now n m k }
-    requires idle { Idle (states_of n states.now) k (edges_of m edges.now) scratch.old }
-    requires s_lt_n { s < n }
-    ensures variant { result ≡ true ↔ Own (states_of n states.now) k (edges_of m edges.now) s }
-    ensures idle_2 { Idle (states_of n states.now) k (edges_of m edges.now) scratch.new }
+pub fn is_safe(network: &Network, scratch: &mut [i32], s: usize) -> bool
+    requires idle { IdleIn network.now scratch.old }
+    requires listed { s < network.now.state_count }
+    ensures own { result ≡ true ↔ Own (states_in network.now) network.now.rule_count (edges_in network.now) s }
+    ensures idle_again { IdleIn network.now scratch.new }
 {
-    let before = tables::number_at(scratch, 4 * s);
-    if before != 0 {
-        return before == 2;
+    let before = tables::number_at(scratch, SCRATCH * s);
+    if before != Colour::Unmet as usize {
+        return before == Colour::Safe as usize;
     }
-    search_from(states, edges, rules, scratch, n, m, k, s);
-    let after = tables::number_at(scratch, 4 * s);
-    after == 2
+    search_from(network, scratch, s);
+    tables::number_at(scratch, SCRATCH * s) == Colour::Safe as usize
 }

@@ -6,6 +6,11 @@ use Prim.Native.Nat.{ℕ, zero, suc, ◌+◌, ◌-◌, ◌*◌, ◌/◌, ◌≤�
 use native.Mathlib.Omega.{arith}
 use lib.Dec.{leb}
 use lib.IntN.{ℤ, pos}
+use lib.Signed.{le_z}
+use mir.Syntax.{w32}
+use mir.Val.{SFits, to_z, of_z}
+use mir.ValLaws.{to_z-of_z}
+use Rattle.laws.specs.Order.{le_z_key}
 use lib.ListN.{length, get_or}
 use borrow.Author.Tests.{lt-ltb, le-ltb}
 use Rattle.format.specs.Sets.{Range, key, at, halve, found, holds, ranges_of}
@@ -40,6 +45,10 @@ module _ (l : List Range) (v : ℤ) (low high : ℕ) (h : low < high) where
   unfolding halve
   step_down (zero, r) t = absurd (omega arith)
   step_down (suc f, r) t = (f, (omega arith, rw (lt-ltb low high h, t) at r.1))
+
+-- a test of two words that went through locals, the second of which stays one
+pub tested : (x y : ℤ) → SFits w32 x → SFits w32 y → {t : Bool} → le_z (to_z w32 (of_z w32 x)) (to_z w32 (of_z w32 y)) ≡ t → leb (key x) (key (to_z w32 (of_z w32 y))) ≡ t
+tested x y f g e = rw (to_z-of_z w32 y g) (sym (le_z_key x y f g) ∙ (rw (to_z-of_z w32 x f, to_z-of_z w32 y g) at e))
 
 met : (l : List Range) (v : ℤ) (low high : ℕ) → high ≤ low → Reaches l v low high → holds l v ≡ found l v low
 unfolding halve holds

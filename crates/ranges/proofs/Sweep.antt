@@ -11,17 +11,15 @@ use lib.IntN.{ℤ, pos}
 use lib.ListN.{length, get_or, drop, length-append, length-set, drop_of_length-le}
 use lib.Seq.{drop-cons}
 use mir.Syntax.{w32}
-use mir.Val.{SFits, to_z, of_z}
-use mir.ValLaws.{to_z-of_z}
+use mir.Val.{SFits}
 use Rattle.format.specs.Reading.{pick}
 use Rattle.format.specs.Sets.{Range, range, key, at}
 use Rattle.laws.specs.Canonical.{Fit}
 use Rattle.ordering.specs.Records.{pair_at, put_at}
 use Rattle.ordering.proofs.Heaps.{same}
-use Rattle.ordering.proofs.Tested.{plain}
 use Rattle.ranges.specs.Laid.{ranges_in, over}
 use Rattle.ranges.specs.Words.{in_long, in_part, over-at, over-put}
-use Rattle.ranges.specs.Joining.{straight, meets, both, join_on, join_all, rises_on, rises_all, FitAt, End, Joins}
+use Rattle.ranges.specs.Joining.{straight, meets, both, join_on, join_all, rises_on, rises_all, FitAt, Joins}
 use Rattle.ranges.specs.declared.joining.Joined.{Joined}
 
 fit_at : (l : List Range) → ((i : ℕ) → i < length l → SFits w32 (at l i).start × SFits w32 (at l i).stop) → Fit l
@@ -35,13 +33,6 @@ fit_in ws n room f =
 
 pub none : (ws : List ℤ) {n : ℕ} → n ≡ 0 → Joins ws ws n (record { count = 0; rising = true })
 none ws e = rw e (record { count = refl; rising = refl; words = refl; fits = tt })
-
--- one end of a record: what f makes of its two words, though all three went through locals
-pub end_read : (ws : List ℤ) (i : ℕ) (f : ℤ → ℤ → ℤ) (end : Range → ℤ) → f (get_or ws (2 * i) (pos 0)) (get_or ws (2 * i + 1) (pos 0)) ≡ end (straight (pair_at ws i))
-    → SFits w32 (get_or ws (2 * i) (pos 0)) → SFits w32 (get_or ws (2 * i + 1) (pos 0)) → {r : ℤ} → SFits w32 r
-    → r ≡ f (to_z w32 (of_z w32 (get_or ws (2 * i) (pos 0)))) (to_z w32 (of_z w32 (get_or ws (2 * i + 1) (pos 0)))) → End ws i end (to_z w32 (of_z w32 r))
-end_read ws i f end e fa fb {r} fr h =
-    record { is = to_z-of_z w32 r fr ∙ plain f (get_or ws (2 * i) (pos 0)) (get_or ws (2 * i + 1) (pos 0)) fa fb h ∙ e; fits = (fa, fb) }
 
 -- After i records of ws are read and out are stored, p is still to be stored; `rising` says whether the starts rose so far.
 pub record Going (ws vs : List ℤ) (n : ℕ) (p : Range) (rising : Bool) (out i : ℕ) : Type 0 where

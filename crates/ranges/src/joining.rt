@@ -2,61 +2,68 @@
 // disjoint, and touching ones joined".
 // From the Rust's atn/mod.rs: the swap of `IntervalSet`'s `add_range`, and the merging loop of its `normalize`.
 
-ghost use Rattle.std.specs.Prelude.{◌≡◌, false, ◌+◌, ◌*◌, ◌≤◌, leb, length};
-ghost use Rattle.format.specs.Reading.{pick};
-ghost use Rattle.format.specs.Sets.{range, key};
+ghost use Rattle.std.specs.Prelude.{◌≡◌, ◌+◌, ◌*◌, ◌≤◌, length};
+ghost use Rattle.format.specs.Sets.{range, lower, upper};
+ghost use Rattle.ordering.specs.Records.{put_at};
 ghost use Rattle.ranges.specs.Joining.{meets, End, Joins};
 
 use ordering::order;
 
-// How many ranges are left, and whether no interval started below the range before it.
+// How many ranges are left, and whether no interval started below the range before it. Both are always told: where they did not rise,
+// those that are left are counted as well, so that an Option or a Result would say less.
 #[derive(Clone, Copy)]
 pub struct Joined {
     pub count: usize,
     pub rising: bool,
 }
 
-// The lower end of the i-th record.
-fn low_end(part: &[i32], i: usize) -> i32
-    requires { 2 * i + 2 ≤ length part.now }
-    ensures { End part.now i (λ q. q.start) result }
-{
-    let a = part[2 * i];
-    let b = part[2 * i + 1];
-    order::lower(a, b)
+// A range, its ends in order.
+#[derive(Clone, Copy)]
+struct Span {
+    low: i32,
+    high: i32,
 }
 
-// The upper end of the i-th record.
-fn high_end(part: &[i32], i: usize) -> i32
-    requires { 2 * i + 2 ≤ length part.now }
-    ensures { End part.now i (λ q. q.stop) result }
-{
-    let a = part[2 * i];
-    let b = part[2 * i + 1];
-    order::upper(a, b)
-}
+impl Span {
+    // The i-th record.
+    fn read(part: &[i32], i: usize) -> Span
+        requires { 2 * i + 2 ≤ length part.now }
+        ensures low { End part.now i (λ q. q.start) result.low }
+        ensures high { End part.now i (λ q. q.stop) result.high }
+    {
+        let start = part[2 * i];
+        let stop = part[2 * i + 1];
+        Span {
+            low: start.min(stop),
+            high: start.max(stop),
+        }
+    }
 
-// Whether low to high and a to b meet or touch.
-fn meet(low: i32, high: i32, a: i32, b: i32) -> bool
-    ensures { result ≡ meets (range low high) (range a b) }
-{
-    if order::apart(high, a) {
-        return false;
+    // Whether the two meet or touch.
+    fn meets(self, next: Span) -> bool
+        ensures { result ≡ meets (range self.low self.high) (range next.low next.high) }
+    {
+        !order::apart(self.high, next.low) && !order::apart(next.high, self.low)
     }
-    if order::apart(b, low) {
-        return false;
-    }
-    true
-}
 
-// Whether the starts, which rose so far, still do.
-fn still(rising: bool, low: i32, a: i32) -> bool
-    ensures { result ≡ pick rising (leb (key low) (key a)) false }
-{
-    if rising {
-        return order::at_most(low, a);
+    // Two that do, as one.
+    fn joined(self, next: Span) -> Span
+        ensures low { result.low ≡ lower self.low next.low }
+        ensures high { result.high ≡ upper self.high next.high }
+    {
+        Span {
+            low: self.low.min(next.low),
+            high: self.high.max(next.high),
+        }
     }
-    false
+
+    // It becomes the k-th record.
+    fn store(self, part: &mut [i32], k: usize)
+        requires { 2 * k + 2 ≤ length part.old }
+        ensures { part.new ≡ put_at part.old k (range self.low self.high) }
+    {
+        ordering::put(part, k, self.low, self.high);
+    }
 }
 
 // The first n records: each is joined with the range before it where the two meet or touch. One forward pass, which carries that range,
@@ -71,27 +78,21 @@ pub fn join(part: &mut [i32], n: usize) -> Joined
             rising: true,
         };
     }
-    let mut low = low_end(part, 0);
-    let mut high = high_end(part, 0);
+    let mut last = Span::read(part, 0);
     let mut rising = true;
     let mut out: usize = 0;
-    let mut i: usize = 1;
-    while i < n {
-        let a = low_end(part, i);
-        let b = high_end(part, i);
-        i += 1;
-        rising = still(rising, low, a);
-        if meet(low, high, a, b) {
-            low = order::lower(low, a);
-            high = order::upper(high, b);
+    for i in 1..n {
+        let next = Span::read(part, i);
+        rising = rising && last.low <= next.low;
+        if last.meets(next) {
+            last = last.joined(next);
         } else {
-            ordering::put(part, out, low, high);
+            last.store(part, out);
             out += 1;
-            low = a;
-            high = b;
+            last = next;
         }
     }
-    ordering::put(part, out, low, high);
+    last.store(part, out);
     Joined {
         count: out + 1,
         rising,

@@ -12,8 +12,6 @@ ghost use Rattle.inplace.specs.Sets.{kept_in};
 ghost use Rattle.ranges.specs.Laid.{kept_of};
 ghost use Rattle.ranges.specs.Joining.{Merges};
 
-use ordering::order;
-
 // The ranges that a set keeps of the n intervals at the front of `part`. Answers how many. Where no interval starts below the range
 // before it, as ANTLR writes them, one pass is all; else what it leaves is put in order, and a second one does the rest.
 fn merge(part: &mut [i32], n: usize) -> usize
@@ -21,13 +19,11 @@ fn merge(part: &mut [i32], n: usize) -> usize
     ensures { Merges part.old part.new n result }
 {
     let first = joining::join(part, n);
-    let left = first.count;
     if first.rising {
-        return left;
+        return first.count;
     }
-    ordering::sort(part, left);
-    let second = joining::join(part, left);
-    second.count
+    ordering::sort(part, first.count);
+    joining::join(part, first.count).count
 }
 
 // A set's n intervals stand at the front of `part`, which is the rest of the range table from the set's first range on: they become
@@ -38,13 +34,12 @@ pub fn normalize(part: &mut [i32], n: usize) -> usize
     ensures part_after { part.new ≡ kept_in n (kept_of part.old n) part.old }
 {
     let count = merge(part, n);
-    let from = 2 * count;
-    let to = 2 * n;
-    tables::clear(&mut part[from..to]);
+    part[2 * count..2 * n].fill(0);
     count
 }
 
-// "Lookup of v": whether a range holds the value, by halving. An odd last word is not read.
+// "Lookup of v": whether a range holds the value, by halving. An odd last word is not read. (Not by `partition_point`: it halves at other
+// places and says nothing of ranges that are not in order, and document 01's lookup answers for any words.)
 pub fn contains(ranges: &[i32], value: i32) -> bool
     ensures { result ≡ lookup ranges.now value }
 {
@@ -52,16 +47,11 @@ pub fn contains(ranges: &[i32], value: i32) -> bool
     let mut high: usize = ranges.len() / 2;
     while low < high {
         let middle = low + (high - low) / 2;
-        let start = ranges[2 * middle];
-        if order::at_most(start, value) {
+        if ranges[2 * middle] <= value {
             low = middle + 1;
         } else {
             high = middle;
         }
     }
-    if low == 0 {
-        return false;
-    }
-    let stop = ranges[2 * (low - 1) + 1];
-    order::at_most(value, stop)
+    0 < low && value <= ranges[2 * (low - 1) + 1]
 }

@@ -1,2 +1,3 @@
 -- Words of the lent tables.
 pub mod Words
+pub mod Records

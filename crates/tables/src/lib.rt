@@ -3,34 +3,33 @@
 
 #![tactic(auto)]
 
+pub mod net;
+pub mod records;
+pub mod rows;
+
 ghost use Rattle.std.specs.Prelude.{◌≡◌, ◌+◌, ◌*◌, ◌<◌, ◌≤◌, ◌^◌, pos, length, get_or, set};
-ghost use Rattle.format.specs.Sections.{same, size};
+ghost use Rattle.format.specs.Sections.{size};
 ghost use Rattle.format.specs.Tables.{row_at, zeros};
 ghost use Rattle.tables.specs.Words.{number_of, number_at};
+
+// "Room is the number of whole records, counted as 65,536 at most."
+pub const MOST: usize = 65_536;
+
+// Words of scratch for each state.
+pub const SCRATCH: usize = 4;
 
 // Every word becomes 0.
 pub fn clear(t: &mut [i32])
     ensures { t.new ≡ zeros (length t.old) }
 {
-    let mut i: usize = 0;
-    while i < t.len() {
-        t[i] = 0;
-        i += 1;
-    }
+    t.fill(0);
 }
 
 // A word as a record's number. "None" is -1: a number that no table has a record for.
 pub fn number_of(z: i32) -> usize
     ensures { result ≡ number_of z }
 {
-    if z < 0 { 4294967295 } else { z as usize }
-}
-
-// Whether two words are the same.
-pub fn equal(a: i32, b: i32) -> bool
-    ensures { result ≡ same a b }
-{
-    a == b
+    usize::try_from(z).unwrap_or(u32::MAX as usize)
 }
 
 // Word i, as a record's number.
@@ -46,8 +45,7 @@ pub fn size_at(t: &[i32], i: usize) -> usize
     requires { i < length t.now }
     ensures { (result ≡ size (get_or t.now i (pos 0))) × (result < 2 ^ 31) }
 {
-    let z = t[i];
-    if z < 0 { 0 } else { z as usize }
+    usize::try_from(t[i]).unwrap_or(0)
 }
 
 // Record i, of so many words.
@@ -55,12 +53,10 @@ pub fn row<'a>(t: &'a [i32], width: usize, i: usize) -> &'a [i32]
     requires { width * i + width ≤ length t.now }
     ensures { result.now ≡ row_at width t.now i }
 {
-    let from = width * i;
-    let to = from + width;
-    &t[from..to]
+    &t[width * i..width * i + width]
 }
 
-// A number becomes word i.
+// A number becomes word i. (By `as`, which is proved to lose nothing.)
 pub fn store(t: &mut [i32], i: usize, v: usize)
     requires { (i < length t.old) × (v < 2 ^ 31) }
     ensures { t.new ≡ set t.old i (pos v) }
@@ -73,6 +69,5 @@ pub fn copy_word(to: &mut [i32], i: usize, from: &[i32], j: usize)
     requires { (i < length to.old) × (j < length from.now) }
     ensures { to.new ≡ set to.old i (get_or from.now j (pos 0)) }
 {
-    let z = from[j];
-    to[i] = z;
+    to[i] = from[j];
 }

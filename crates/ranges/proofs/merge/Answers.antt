@@ -9,8 +9,8 @@ returns-then-first c = merged_once c.requires c.join-first.auto.part c.join-firs
 pub sort-requires : goal.sort-requires
 sort-requires c = omega (arith, merged_few c.requires c.join-first.auto.part c.join-first.ensures)
 
-pub join-second-requires : goal.join-second-requires
-join-second-requires c = omega (arith, merged_few c.requires c.join-first.auto.part c.join-first.ensures)
+pub join-requires : goal.join-requires
+join-requires c = omega (arith, merged_few c.requires c.join-first.auto.part c.join-first.ensures)
 
 pub returns : goal.returns
-returns c = merged_twice c.requires c.join-first.auto.part c.join-first.ensures c.sort.ensures.moved c.sort.ensures.rising c.join-second.ensures
+returns c = merged_twice c.requires c.join-first.auto.part c.join-first.ensures c.sort.ensures.moved c.sort.ensures.rising c.join.ensures

@@ -5,5 +5,5 @@ use Rattle.atn.proofs.search.search_from.Goals as goal
 
 pub loop-top-init : goal.loop-top-init
 loop-top-init c =
-    let b = search_begins c.requires.linked.chained c.requires.idle c.requires.s_lt_n.0 c.requires.s_lt_n.1 c.meet-top.ensures in
+    let b = search_begins c.args.network.now.linked.chained c.requires.idle c.requires.unmet.0 c.requires.unmet.1 c.meet-top.ensures in
     (b.0.runs, b.1, refl)

@@ -1,2 +1,2 @@
 -- Lemmas of the functions' proofs.
-mod Signs
+mod Reading

@@ -1,9 +1,0 @@
--- `tables::clear` meets its contract: after i turns the first i words are 0. Assumes nothing.
-use Rattle.std.proofs.Common.{◌≡◌, ◌++◌, ◌-◌, ◌≤◌, pos, length, drop, replicate}
-use Rattle.tables.proofs.clear.Given as goal
-
-abbrev pub invariant-loop-i : goal.invariant-loop-i
-invariant-loop-i l = (l.i ≤ length l.initial.t) × (l.t ≡ replicate l.i (pos 0) ++ drop l.i l.initial.t) × (length l.t ≡ length l.initial.t)
-
-abbrev pub decreases-loop-i : goal.decreases-loop-i
-decreases-loop-i l = length l.initial.t - l.i
