@@ -1,14 +1,12 @@
--- One edge: its six words, its tests, and its eight words. The programs are `edge`, in parts (Laws: `edge_is`).
-use Rattle.std.specs.Prelude.{◌≡◌, List, ℕ, ◌+◌, ◌<◌, ◌^◌, ℤ}
+-- One edge: its six words, its tests, and what it means. The programs are `edge`, in parts (Laws: `edge_is`).
+use Rattle.std.specs.Prelude.{◌≡◌, ℕ, ◌+◌, ◌<◌, ◌^◌, ℤ, Ok, Err}
 use Rattle.format.specs.Reading.{Outcome, ok, no, Prog, done, ◌>>=◌, ◌>>◌, spot, known, listed, get, index}
 use Rattle.format.specs.Sections.{Edge, meaning, test_a, test_b}
-use Rattle.laws.specs.Running.{after}
-use Rattle.inplace.specs.Rows.{edge_row}
-use Rattle.words.specs.declared.Index.{Index}
-use Rattle.words.specs.declared.Index.TheVariants as I
+use Rattle.format.specs.declared.kinds.EdgeKind.{EdgeKind}
+use Rattle.format.specs.Kinds.{edge_number}
+use Rattle.words.specs.Answers.{Read}
+use Rattle.edges.specs.declared.edge.Tested.{Tested}
 use Rattle.edges.specs.declared.reading.RawEdge.{RawEdge}
-use Rattle.edges.specs.declared.reading.RawStep.{RawStep}
-use Rattle.edges.specs.declared.reading.RawStep.TheVariants as R
 
 -- ---- "six words are read (24 and 25 tested as read)"
 
@@ -34,14 +32,15 @@ six_words i = do
   t ← index (spot 25 i)
   type_on i s t
 
-abbrev pub outcome_raw : RawStep → Outcome RawEdge
-outcome_raw (R.Got e n) = ok e n
-outcome_raw (R.Refused r) = no r
-
 -- Source and target are indices, and the next word stands at that place.
-abbrev pub Sound : ℕ → RawStep → Type 0
-Sound place (R.Got e n) = (e.source < 2 ^ 31) × (e.target < 2 ^ 31) × (n ≡ place)
-Sound place (R.Refused r) = Unit {0}
+abbrev pub Sound : ℕ → Read RawEdge → Type 0
+Sound place (Ok (e, n)) = (e.source < 2 ^ 31) × (e.target < 2 ^ 31) × (n ≡ place)
+Sound place (Err r) = Unit {0}
+
+-- A type that was told, by its number.
+abbrev pub numbered : Read EdgeKind → Outcome ℕ
+numbered (Ok (k, n)) = ok (edge_number k) n
+numbered (Err r) = no r
 
 -- ---- "then 8, then a negative or 9, then b, then 10"; word 24 stands at the place
 
@@ -56,19 +55,12 @@ checked i nstates nsets place k e = do
 unfoldable pub tested : ℕ → ℕ → ℕ → ℕ → RawEdge → Prog Edge
 tested i nstates nsets place e = known 8 1 10 (spot 26 i) (place + 2) e.kind >>= (λ k. checked i nstates nsets place k e)
 
--- ---- the eight words, plain and not chained yet, with the source by which the edge is chained
+-- ---- an edge that passed its tests: what it means, and that its source is below k
 
-pub record Row : Type 0 where
-  pub source : ℕ
-  pub words : List ℤ
+abbrev pub meant : Read Tested → Outcome Edge
+meant (Ok (t, n)) = ok (meaning (edge_number t.kind) t.raw.source t.raw.target t.raw.a t.raw.b t.raw.c) n
+meant (Err r) = no r
 
-abbrev pub row : ℕ → List ℤ → Row
-row s ws = record { source = s; words = ws }
-
-abbrev pub rowed : Outcome Edge → Outcome Row
-rowed o = after o (λ e n. ok (row e.source (edge_row 0 e)) n)
-
--- A source that was answered, with the words that were left: on a refusal nothing is said of these.
-abbrev pub written : Index → List ℤ → Outcome Row
-written (I.Got s n) ws = ok (row s ws) n
-written (I.Refused r) ws = no r
+abbrev pub Bounded : ℕ → Read Tested → Type 0
+Bounded k (Ok (t, n)) = (t.raw.source < k) × (t.raw.source < 2 ^ 31) × (t.raw.target < 2 ^ 31)
+Bounded k (Err r) = Unit {0}

@@ -1,5 +1,5 @@
 -- How far an edge's words reach; and that its parts are `edge`, and its record and its chain `edge_one`.
-use Rattle.std.specs.Prelude.{◌≡◌, List, Bool, ℤ, pos, negsuc, get_or}
+use Rattle.std.specs.Prelude.{◌≡◌, List, Bool, ℤ, pos, negsuc, get_or, Some, None}
 use Rattle.std.proofs.Math.Path.{refl, sym, ap}
 use Rattle.std.proofs.Common.{◌∙◌}
 use Rattle.std.proofs.Math.Bool.{true, false}
@@ -8,20 +8,16 @@ use native.Mathlib.Omega.{arith}
 use Rattle.std.proofs.Math.Dec.{ltb}
 use Rattle.std.proofs.Math.ListN.{length}
 use borrow.Author.Tests.{ltb-true}
+use Rattle.format.specs.declared.Refusal.{Refusal}
 use Rattle.format.specs.declared.Spot.{Spot}
 use Rattle.format.specs.Reading.{Table, Outcome, ok, no, Prog, done, refuse, word, run, ended, refusal, pick, ◌>>=◌, spot, natural, listed, get, index}
-use Rattle.format.specs.Sections.{Edge, meaning, test_a, test_b, edge}
+use Rattle.format.specs.Sections.{Edge, edge}
 use Rattle.laws.specs.Reading.{clash}
 use Rattle.laws.specs.Running.{after, run_bind, ok_then, no_then}
-use Rattle.laws.specs.Collect.{put}
-use Rattle.words.specs.Signs.{sign_of}
-use Rattle.words.specs.declared.Sign.TheVariants.{Natural, Negative}
+use Rattle.words.specs.Signs.{index_of}
 use Rattle.words.specs.Laws.{natural_ok, natural_no, get_ok, get_no, index_ok, run_done, run_refuse}
-use Rattle.inplace.specs.Rows.{edge_row}
-use Rattle.inplace.specs.Links.{Net, net, chained, linked, edge_one}
-use Rattle.edges.specs.declared.reading.RawEdge.{RawEdge}
-use Rattle.edges.specs.Kinds.{meaning_source}
-use Rattle.edges.specs.Edge.{raw, rest_of, type_on, six_words, checked, tested, Row, row, rowed}
+use Rattle.inplace.specs.Links.{Net, linked, edge_one}
+use Rattle.edges.specs.Edge.{raw, rest_of, type_on, six_words, checked, tested}
 
 -- ---- an index is one word
 
@@ -39,6 +35,17 @@ module _ (f : Spot) (ws : List ℤ) (room : Table → ℕ) (at : ℕ) where
   unfolding run
   natural_stays (pos k) m i n q = cc
   natural_stays (negsuc k) m i n q = clash q
+
+  -- a word that was taken as an index, by its sign
+  pub natural_got : (v : ℤ) (m : ℕ) {i n : ℕ} → ok i n ≡ run (natural f at v) ws room m → index_of v ≡ Some i
+  unfolding run
+  natural_got (pos k) m {i} {n} e = let q : k ≡ i = cc in ap Some q
+  natural_got (negsuc k) m e = clash e
+
+  pub natural_below : (v : ℤ) (m : ℕ) {r : Refusal} → no r ≡ run (natural f at v) ws room m → (index_of v ≡ None) × (r ≡ refusal 2 f at v)
+  unfolding run
+  natural_below (pos k) m e = clash (sym e)
+  natural_below (negsuc k) m e = (refl, cc)
 
   pub index-next : {i n : ℕ} → ok i n ≡ run (index f) ws room at → n ≡ at + 1
   unfolding index
@@ -61,10 +68,10 @@ module _ (f : Spot) (ws : List ℤ) (room : Table → ℕ) (at : ℕ) where
   index_there e = word_there (natural f) e
 
   -- a word that is there, by its sign
-  index_got : {i : ℕ} → at < length ws → sign_of (get_or ws at (pos 0)) ≡ Natural i → ok i (at + 1) ≡ run (index f) ws room at
+  index_got : {i : ℕ} → at < length ws → index_of (get_or ws at (pos 0)) ≡ Some i → ok i (at + 1) ≡ run (index f) ws room at
   index_got {i} h s = run_done (natural_ok f at i (get_or ws at (pos 0)) s) ws room (at + 1) ∙ sym (index_ok f ws room at (get_ok f ws room at h))
 
-  index_below : at < length ws → sign_of (get_or ws at (pos 0)) ≡ Negative → no (refusal 2 f at (get_or ws at (pos 0))) ≡ run (index f) ws room at
+  index_below : at < length ws → index_of (get_or ws at (pos 0)) ≡ None → no (refusal 2 f at (get_or ws at (pos 0))) ≡ run (index f) ws room at
   index_below h s = run_refuse (natural_no f at (get_or ws at (pos 0)) s) ws room (at + 1) ∙ sym (index_ok f ws room at (get_ok f ws room at h))
 
   -- the k-th word from a place on
@@ -75,7 +82,7 @@ module _ (i : ℕ) (ws : List ℤ) (room : Table → ℕ) (at : ℕ) where
   abbrev nth : ℕ → ℤ
   nth k = get_or ws (at + k) (pos 0)
 
-  pub six_ok : {s t : ℕ} → at + 6 ≤ length ws → sign_of (get_or ws at (pos 0)) ≡ Natural s → sign_of (nth 1) ≡ Natural t
+  pub six_ok : {s t : ℕ} → at + 6 ≤ length ws → index_of (get_or ws at (pos 0)) ≡ Some s → index_of (nth 1) ≡ Some t
       → ok (raw s t (nth 2) (nth 3) (nth 4) (nth 5)) (at + 6) ≡ run (six_words i) ws room at
   unfolding run six_words type_on rest_of
   six_ok {s} {t} h p q =
@@ -88,11 +95,11 @@ module _ (i : ℕ) (ws : List ℤ) (room : Table → ℕ) (at : ℕ) where
       ∙ ok_then (get (spot 29 i)) _ ws room (at + 5) (word_at_lem (spot 29 i) ws room at 5 (omega arith)))
 
   -- the first of them, or the second, is negative
-  pub six-first : at < length ws → sign_of (get_or ws at (pos 0)) ≡ Negative → no (refusal 2 (spot 24 i) at (get_or ws at (pos 0))) ≡ run (six_words i) ws room at
+  pub six-first : at < length ws → index_of (get_or ws at (pos 0)) ≡ None → no (refusal 2 (spot 24 i) at (get_or ws at (pos 0))) ≡ run (six_words i) ws room at
   unfolding six_words
   six-first h p = sym (no_then (index (spot 24 i)) _ ws room at (index_below (spot 24 i) ws room at h p))
 
-  pub six-second : {s : ℕ} → at + 1 < length ws → sign_of (get_or ws at (pos 0)) ≡ Natural s → sign_of (nth 1) ≡ Negative → no (refusal 2 (spot 25 i) (at + 1) (nth 1)) ≡ run (six_words i) ws room at
+  pub six-second : {s : ℕ} → at + 1 < length ws → index_of (get_or ws at (pos 0)) ≡ Some s → index_of (nth 1) ≡ None → no (refusal 2 (spot 25 i) (at + 1) (nth 1)) ≡ run (six_words i) ws room at
   unfolding six_words
   six-second h p q = sym (ok_then (index (spot 24 i)) _ ws room at (index_got (spot 24 i) ws room at (omega arith) p) ∙ no_then (index (spot 25 i)) _ ws room (at + 1) (index_below (spot 25 i) ws room (at + 1) h q))
 
@@ -144,9 +151,9 @@ edge_is i nstates nsets ws room at =
     ∙ run_cong ws room (index (spot 24 i)) (λ s. (index (spot 25 i) >>= type_on i s) >>= rest) (λ s. index (spot 25 i) >>= (λ t. type_on i s t >>= rest)) at
     (λ s n. run_assoc ws room (index (spot 25 i)) (type_on i s) rest n))
 
--- ---- an edge that passed its tests
+-- ---- a number that is listed is told as it was
 
-listed_same : (number end : ℕ) (f : Spot) (p k : ℕ) (ws : List ℤ) (room : Table → ℕ) (at : ℕ) {i n : ℕ} → ok i n ≡ run (listed number end f p k) ws room at → i ≡ k
+pub listed_same : (number end : ℕ) (f : Spot) (p k : ℕ) (ws : List ℤ) (room : Table → ℕ) (at : ℕ) {i n : ℕ} → ok i n ≡ run (listed number end f p k) ws room at → i ≡ k
 unfolding run
 listed_same number end f p k ws room at {i} {n} e = go (ltb k end) e
   where
@@ -154,26 +161,12 @@ listed_same number end f p k ws room at {i} {n} e = go (ltb k end) e
     go true q = cc
     go false q = clash q
 
-module _ (i nstates nsets place k : ℕ) (e : RawEdge) (ws : List ℤ) (room : Table → ℕ) (at : ℕ) where
-  pub checked_ok : {x n j m s o : ℕ} → k < 11 → ok x n ≡ run (test_a i nsets k (place + 3) e.a) ws room at
-      → ok j m ≡ run (test_b i k (place + 4) e.b) ws room n → ok s o ≡ run (listed 10 nstates (spot 24 i) place e.source) ws room m
-      → ok (row s (edge_row 0 (meaning k e.source e.target e.a e.b e.c))) o ≡ rowed (run (checked i nstates nsets place k e) ws room at)
-  unfolding run checked
-  checked_ok {x} {n} {j} {m} {s} {o} h fa fb fs =
-      let y = meaning k e.source e.target e.a e.b e.c in
-      ap (λ (z : ℕ). ok (row z (edge_row 0 y)) o) (listed_same 10 nstates (spot 24 i) place e.source ws room m fs ∙ sym (meaning_source e.source e.target e.a e.b e.c k h))
-      ∙ sym (ap rowed (ok_then _ _ ws room at fa ∙ ok_then _ _ ws room n fb ∙ ok_then _ _ ws room m fs))
-
 -- ---- its record and its chain are `edge_one`
 
-module _ (nstates nsets i : ℕ) (st ed ws : List ℤ) (room : Table → ℕ) (at : ℕ) where
-  abbrev linked_row : Outcome Row → Outcome Net
-  linked_row o = after o (λ r n. ok (chained i r.source (net st (put 8 i r.words ed))) n)
+module _ (nstates nsets i : ℕ) (t : Net) (ws : List ℤ) (room : Table → ℕ) (at : ℕ) where
+  abbrev linked_edge : Outcome Edge → Outcome Net
+  linked_edge o = after o (λ e n. ok (linked i 0 e t) n)
 
-  pub one_is : {o : Outcome Row} → o ≡ rowed (run (edge nstates nsets i) ws room at) → linked_row o ≡ run (edge_one nstates nsets i (net st ed)) ws room at
+  pub one_is : {o : Outcome Edge} → o ≡ run (edge nstates nsets i) ws room at → linked_edge o ≡ run (edge_one nstates nsets i t) ws room at
   unfolding run edge_one
-  one_is e = ap linked_row e ∙ go (run (edge nstates nsets i) ws room at) ∙ sym (run_bind (edge nstates nsets i) (λ e. done (linked i 0 e (net st ed))) ws room at)
-    where
-      go : (o : Outcome Edge) → linked_row (rowed o) ≡ after o (λ e n. ok (linked i 0 e (net st ed)) n)
-      go (ok e n) = refl
-      go (no r) = refl
+  one_is e = ap linked_edge e ∙ sym (run_bind (edge nstates nsets i) (λ e. done (linked i 0 e t)) ws room at)

@@ -1,10 +1,8 @@
 // Document 01, "Edge types": what an edge keeps of a, b and c.
 // From the Rust's atn/serialized.rs: the arguments of `decode_transition`.
 
-ghost use Rattle.std.specs.Prelude.{◌≡◌, ◌<◌, ◌^◌};
+ghost use Rattle.std.specs.Prelude.{◌≡◌};
 ghost use Rattle.format.specs.Sections as spec;
-
-use words::Sign;
 
 // a, or the end of input if c is not 0.
 pub fn label(a: i32, c: i32) -> i32
@@ -17,16 +15,5 @@ pub fn label(a: i32, c: i32) -> i32
 pub fn truth(c: i32) -> i32
     ensures { result ≡ spec.truth c }
 {
-    if words::raised(c) { 1 } else { 0 }
-}
-
-// a as an index.
-pub fn size(a: i32) -> usize
-    ensures says { result ≡ spec.size a }
-    ensures bounded { result < 2 ^ 31 }
-{
-    match words::sign_of(a) {
-        Sign::Natural(n) => n,
-        Sign::Negative => 0,
-    }
+    i32::from(words::raised(c))
 }

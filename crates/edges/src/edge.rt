@@ -1,68 +1,69 @@
 // Document 01, "Edges: six words are read (24 and 25 tested as read), then 8, then a negative or 9, then b, then 10."
 // From the Rust's atn/serialized.rs: one turn of `deserialize_edges`.
 
-ghost use Rattle.std.specs.Prelude.{◌≡◌, List, ℕ, ◌+◌, ◌<◌, ◌^◌, ℤ, length};
-ghost use Rattle.format.specs.Reading.{Table, run};
+ghost use Rattle.std.specs.Prelude.{◌≡◌, List, ℕ, ◌+◌, ◌<◌, ◌^◌, ℤ};
+ghost use Rattle.format.specs.Kinds.{edge_number};
+ghost use Rattle.format.specs.Reading.{Table, run, known};
 ghost use Rattle.format.specs.Sections.{edge};
-ghost use Rattle.words.specs.Answers.{Below};
-ghost use Rattle.edges.specs.Edge.{checked, written, rowed};
+ghost use Rattle.edges.specs.Edge.{checked, meant, numbered, Bounded};
 
-use crate::reading::{RawEdge, RawStep};
-use crate::{reading, tests, transition};
-use format::Spot;
-use words::Index;
+use crate::reading::RawEdge;
+use crate::{reading, tests};
+use format::kinds::EdgeKind;
+use format::reason::Reason;
+use format::{Counts, Spot};
+use words::Read;
 
-// From the tests of a on: the type is known. The answer is the source.
-fn check_edge(
-    part: &mut [i32],
-    record: usize,
-    kind: usize,
-    e: RawEdge,
-    place: usize,
-    next: usize,
-    nstates: usize,
-    nsets: usize,
-) -> Index
-    requires { (length part.old ≡ 8) × (kind < 11) × (e.source < 2 ^ 31) × (e.target < 2 ^ 31) × (place + 6 < 2 ^ 64) }
-    ensures says { (ws : List ℤ) (rooms : Table → ℕ) → written result part.new ≡ rowed (run (checked «record» nstates nsets place kind e) ws rooms next) }
-    ensures bounded { Below nstates result }
+// A word that was read, as the type of an edge: refusal 8 if no type has that number.
+fn edge_kind(word: i32, spot: Spot, place: usize, next: usize) -> Read<EdgeKind>
+    ensures { (ws : List ℤ) (rooms : Table → ℕ) → numbered result ≡ run (known 8 1 10 spot place word) ws rooms next }
 {
-    let spot = Spot { field: 24, record };
-    match tests::test_a(record, kind, e.a, nsets, place + 3, next) {
-        Index::Got(_, then) => match tests::test_b(record, kind, e.b, place + 4, then) {
-            Index::Got(_, last) => match words::listed(e.source, 10, nstates, spot, place, last) {
-                Index::Got(source, end) => {
-                    transition::decode_transition(part, kind, e.source, e.target, e.a, e.b, e.c);
-                    Index::Got(source, end)
-                }
-                Index::Refused(r) => Index::Refused(r),
-            },
-            Index::Refused(r) => Index::Refused(r),
-        },
-        Index::Refused(r) => Index::Refused(r),
+    match EdgeKind::try_from(word) {
+        Ok(kind) => Ok((kind, next)),
+        Err(_) => Err(words::refused(Reason::UnknownEdge as u32, spot, place, word)),
     }
 }
 
-// The edge with that number, into its eight words. The answer is its source.
-pub fn deserialize_edge(
-    part: &mut [i32],
+// An edge that passed its tests: its type, and the words that were read.
+#[derive(Clone, Copy)]
+pub struct Tested {
+    pub kind: EdgeKind,
+    pub raw: RawEdge,
+}
+
+// From the tests of a on: the type is known. (The record's number, its place and the next one are passed by value.)
+fn check_edge(
     record: usize,
-    words: &[i32],
-    at: usize,
-    nstates: usize,
-    nsets: usize,
-) -> Index
-    requires { length part.old ≡ 8 }
-    ensures says { (rooms : Table → ℕ) → written result part.new ≡ rowed (run (edge nstates nsets «record») words.now rooms at) }
-    ensures bounded { Below nstates result }
+    kind: EdgeKind,
+    raw: RawEdge,
+    place: usize,
+    next: usize,
+    counts: &Counts,
+) -> Read<Tested>
+    requires { (raw.source < 2 ^ 31) × (raw.target < 2 ^ 31) × (place + 6 < 2 ^ 64) }
+    ensures says { (ws : List ℤ) (rooms : Table → ℕ) → meant result ≡ run (checked «record» counts.now.states counts.now.sets place (edge_number kind) raw) ws rooms next }
+    ensures bounded { Bounded counts.now.states result }
 {
-    match reading::read_edge(record, words, at) {
-        RawStep::Got(e, next) => {
-            match words::known(e.kind, 8, 1, 10, Spot { field: 26, record }, at + 2, next) {
-                Index::Got(kind, on) => check_edge(part, record, kind, e, at, on, nstates, nsets),
-                Index::Refused(r) => Index::Refused(r),
-            }
-        }
-        RawStep::Refused(r) => Index::Refused(r),
-    }
+    let spot = Spot { field: 24, record };
+    let (_, then) = tests::test_a(record, kind, raw.a, counts.sets, place + 3, next)?;
+    let (_, last) = tests::test_b(record, kind, raw.b, place + 4, then)?;
+    let (_, end) = words::listed(
+        raw.source,
+        Reason::UnlistedSource as u32,
+        counts.states,
+        spot,
+        place,
+        last,
+    )?;
+    Ok((Tested { kind, raw }, end))
+}
+
+// The edge with that number. (Its eight words are made where they are stored: as part of this answer they take a decode 7 % longer.)
+pub fn deserialize_edge(record: usize, words: &[i32], at: usize, counts: &Counts) -> Read<Tested>
+    ensures says { (rooms : Table → ℕ) → meant result ≡ run (edge counts.now.states counts.now.sets «record») words.now rooms at }
+    ensures bounded { Bounded counts.now.states result }
+{
+    let (raw, next) = reading::read_edge(record, words, at)?;
+    let (kind, on) = edge_kind(raw.kind, Spot { field: 26, record }, at + 2, next)?;
+    check_edge(record, kind, raw, at, on, counts)
 }

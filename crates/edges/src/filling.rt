@@ -6,35 +6,32 @@ ghost use Rattle.format.specs.Reading.{Table, Edges, run};
 ghost use Rattle.laws.specs.Running.{turns};
 ghost use Rattle.words.specs.Answers.{told};
 ghost use Rattle.inplace.specs.Held.{held, with};
-ghost use Rattle.inplace.specs.Sections.{counted};
 ghost use Rattle.inplace.specs.Links.{net, edge_one, edging};
 
-use crate::edge;
+use crate::edge::{self, Tested};
+use crate::transition::decode_transition;
+use format::edge::WIDTH;
 use format::{Counts, Decoded};
-use words::{Index, Step};
+use words::Step;
 
-// The i-th edge, into its record and its chain.
+// The i-th edge, into its record and its chain. (Both tables are written, so they are no `Rows`; a struct of two `&mut` would say in each
+// method that both references stay, and saves one parameter.)
 fn edge_one(
     states: &mut [i32],
     edges: &mut [i32],
     i: usize,
     words: &[i32],
     at: usize,
-    nstates: usize,
-    nsets: usize,
+    counts: &Counts,
 ) -> Step
-    requires { (8 * nstates ≤ length states.old) × (8 * i + 8 ≤ length edges.old) × (i < 2 ^ 31) }
-    ensures { (rooms : Table → ℕ) → told result (net states.new edges.new) ≡ run (edge_one nstates nsets i (net states.old edges.old)) words.now rooms at }
+    requires { (8 * counts.now.states ≤ length states.old) × (8 * i + 8 ≤ length edges.old) × (i < 2 ^ 31) }
+    ensures { (rooms : Table → ℕ) → told result (net states.new edges.new) ≡ run (edge_one counts.now.states counts.now.sets i (net states.old edges.old)) words.now rooms at }
 {
-    let from = 8 * i;
-    let to = from + 8;
-    match edge::deserialize_edge(&mut edges[from..to], i, words, at, nstates, nsets) {
-        Index::Got(source, next) => {
-            links::chain_edge(states, edges, i, source);
-            Step::Next(next)
-        }
-        Index::Refused(r) => Step::Refused(r),
-    }
+    let (Tested { kind, raw }, next) = edge::deserialize_edge(i, words, at, counts)?;
+    let from = WIDTH * i;
+    edges[from..from + WIDTH].copy_from_slice(&decode_transition(kind, raw));
+    links::chain_edge(states, edges, i, raw.source);
+    Ok(next)
 }
 
 // n edges.
@@ -44,36 +41,16 @@ fn fill_edges(
     n: usize,
     words: &[i32],
     first: usize,
-    nstates: usize,
-    nsets: usize,
+    counts: &Counts,
 ) -> Step
-    requires { (8 * nstates ≤ length states.old) × (8 * n ≤ length edges.old) × (n < 2 ^ 31) }
-    ensures { (rooms : Table → ℕ) → told result (net states.new edges.new) ≡ run (turns n 0 (edge_one nstates nsets) (net states.old edges.old)) words.now rooms first }
+    requires { (8 * counts.now.states ≤ length states.old) × (8 * n ≤ length edges.old) × (n < 2 ^ 31) }
+    ensures { (rooms : Table → ℕ) → told result (net states.new edges.new) ≡ run (turns n 0 (edge_one counts.now.states counts.now.sets) (net states.old edges.old)) words.now rooms first }
 {
     let mut at = first;
-    let mut i = 0;
-    while i < n {
-        match edge_one(states, edges, i, words, at, nstates, nsets) {
-            Step::Next(next) => {
-                at = next;
-            }
-            Step::Refused(r) => {
-                return Step::Refused(r);
-            }
-        }
-        i += 1;
+    for i in 0..n {
+        at = edge_one(states, edges, i, words, at, counts)?;
     }
-    Step::Next(at)
-}
-
-// The counts with n edges, and the place behind them.
-fn with_edges(counts: Counts, n: usize, next: usize) -> Counts
-    ensures { result ≡ counted Edges counts n next }
-{
-    let mut c = counts;
-    c.words = next;
-    c.edges = n;
-    c
+    Ok(at)
 }
 
 // The count, and so many edges, after what was accepted.
@@ -87,14 +64,11 @@ pub fn count_edges(
     requires { (8 * counts.states ≤ length states.old) × (8 * room ≤ length edges.old) × (room ≤ 65536) }
     ensures { (rooms : Table → ℕ) → rooms Edges ≡ room → held result (net states.new edges.new) ≡ run (edging (with counts (net states.old edges.old))) words.now rooms counts.words }
 {
-    let at = counts.words;
-    let nstates = counts.states;
-    let nsets = counts.sets;
-    match words::read_count(words, at, 23, room) {
-        Index::Got(n, next) => match fill_edges(states, edges, n, words, next, nstates, nsets) {
-            Step::Next(end) => Decoded::Accepted(with_edges(counts, n, end)),
-            Step::Refused(r) => Decoded::Refused(r),
-        },
-        Index::Refused(r) => Decoded::Refused(r),
-    }
+    let (n, next) = words::read_count(words, counts.words, 23, room)?;
+    let end = fill_edges(states, edges, n, words, next, &counts)?;
+    Ok(Counts {
+        words: end,
+        edges: n,
+        ..counts
+    })
 }

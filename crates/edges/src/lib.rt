@@ -29,8 +29,5 @@ pub fn deserialize_edges(
     requires { (StatesIn (length states.old) sofar) × (8 * room ≤ length edges.old) × (room ≤ 65536) }
     ensures { (rooms : Table → ℕ) → rooms Edges ≡ room → held result (net states.new edges.new) ≡ onward edging words.now rooms (held sofar (net states.old edges.old)) }
 {
-    match sofar {
-        Decoded::Accepted(counts) => filling::count_edges(counts, words, states, edges, room),
-        Decoded::Refused(r) => Decoded::Refused(r),
-    }
+    filling::count_edges(sofar?, words, states, edges, room)
 }

@@ -1,58 +1,49 @@
 // Document 01, "Refusal numbers": the tests of an edge's arguments.
 // From the Rust's atn/serialized.rs: `read_index` and the set tests of `decode_transition`.
 
-ghost use Rattle.std.specs.Prelude.{◌≡◌, List, [], ◌∷◌, ℕ, ℤ};
+ghost use Rattle.std.specs.Prelude.{◌≡◌, List, ℕ, ℤ};
+ghost use Rattle.format.specs.Kinds.{edge_number};
 ghost use Rattle.format.specs.Reading.{Table, run};
-ghost use Rattle.format.specs.Sections.{among, test_a, test_b};
-ghost use Rattle.words.specs.Answers.{outcome_ix};
+ghost use Rattle.format.specs.Sections.{test_a, test_b};
+ghost use Rattle.words.specs.Answers.{outcome};
 
 use format::Spot;
-use words::Index;
+use format::kinds::EdgeKind;
+use format::reason::Reason;
+use words::Read;
 
-// Whether a is a set's number.
-fn has_set(kind: usize) -> bool
-    ensures { result ≡ among kind (7 ∷ 8 ∷ []) }
-{
-    kind == 7 || kind == 8
-}
-
-// Whether a and b are indices.
-fn has_two(kind: usize) -> bool
-    ensures { result ≡ among kind (3 ∷ 4 ∷ []) }
-{
-    kind == 3 || kind == 4
-}
-
-// Whether a is an index, and no set's number.
-fn has_index(kind: usize) -> bool
-    ensures { result ≡ among kind (3 ∷ 4 ∷ 6 ∷ []) }
-{
-    kind == 6 || has_two(kind)
-}
-
-// "a negative or 9"
-pub fn test_a(record: usize, kind: usize, a: i32, nsets: usize, place: usize, next: usize) -> Index
-    ensures { (ws : List ℤ) (rooms : Table → ℕ) → outcome_ix result ≡ run (test_a «record» nsets kind place a) ws rooms next }
+// "a negative or 9": a is a set's number, or an index, or anything.
+pub fn test_a(
+    record: usize,
+    kind: EdgeKind,
+    a: i32,
+    nsets: usize,
+    place: usize,
+    next: usize,
+) -> Read<usize>
+    ensures { (ws : List ℤ) (rooms : Table → ℕ) → outcome result ≡ run (test_a «record» nsets (edge_number kind) place a) ws rooms next }
 {
     let spot = Spot { field: 27, record };
-    if has_set(kind) {
-        return match words::read_index(a, spot, place, next) {
-            Index::Got(set, on) => words::listed(set, 9, nsets, spot, place, on),
-            Index::Refused(r) => Index::Refused(r),
-        };
+    match kind {
+        EdgeKind::Set | EdgeKind::NotSet => {
+            let (set, on) = words::read_index(a, spot, place, next)?;
+            words::listed(set, Reason::UnlistedSet as u32, nsets, spot, place, on)
+        }
+        EdgeKind::Rule | EdgeKind::Predicate | EdgeKind::Action => {
+            words::read_index(a, spot, place, next)
+        }
+        _ => Ok((0, next)),
     }
-    if has_index(kind) {
-        return words::read_index(a, spot, place, next);
-    }
-    Index::Got(0, next)
 }
 
-// "then b"; any b is good in type 6.
-pub fn test_b(record: usize, kind: usize, b: i32, place: usize, next: usize) -> Index
-    ensures { (ws : List ℤ) (rooms : Table → ℕ) → outcome_ix result ≡ run (test_b «record» kind place b) ws rooms next }
+// "then b": an index in types 3 and 4; any b is good in the others.
+pub fn test_b(record: usize, kind: EdgeKind, b: i32, place: usize, next: usize) -> Read<usize>
+    ensures { (ws : List ℤ) (rooms : Table → ℕ) → outcome result ≡ run (test_b «record» (edge_number kind) place b) ws rooms next }
 {
-    if has_two(kind) {
-        return words::read_index(b, Spot { field: 28, record }, place, next);
+    match kind {
+        EdgeKind::Rule | EdgeKind::Predicate => {
+            words::read_index(b, Spot { field: 28, record }, place, next)
+        }
+        _ => Ok((0, next)),
     }
-    Index::Got(0, next)
 }

@@ -1,42 +1,53 @@
 // Document 01, "Edge types": what each of the ten types keeps, as an edge's eight words.
 // From the Rust's atn/serialized.rs: `decode_transition`.
 
-ghost use Rattle.std.specs.Prelude.{◌≡◌, ◌<◌, ◌^◌, length};
+ghost use Rattle.std.specs.Prelude.{◌≡◌, ◌<◌, ◌^◌};
+ghost use Rattle.format.specs.Kinds.{edge_number};
 ghost use Rattle.format.specs.Sections.{edge_of, meaning};
 ghost use Rattle.inplace.specs.Rows.{edge_row};
 
-use crate::arguments;
+use crate::arguments::{label, truth};
+use crate::reading::RawEdge;
+use format::edge;
+use format::kinds::EdgeKind;
+use words::{index_of, or_none, word_of};
 
-// One record, written whole: plain, and not chained yet.
-fn write_edge(part: &mut [i32], kind: usize, source: usize, target: usize, p: i32, q: i32, r: i32)
-    requires { (length part.old ≡ 8) × (kind < 2 ^ 31) × (source < 2 ^ 31) × (target < 2 ^ 31) }
-    ensures { part.new ≡ edge_row 0 (edge_of kind source target p q r) }
+// One record, whole: plain, and not chained yet.
+fn edge_row(
+    kind: EdgeKind,
+    source: usize,
+    target: usize,
+    p: i32,
+    q: i32,
+    r: i32,
+) -> [i32; edge::WIDTH]
+    requires { (source < 2 ^ 31) × (target < 2 ^ 31) }
+    ensures { result ≡ edge_row 0 (edge_of (edge_number kind) source target p q r) }
 {
-    part[0] = words::word_of(kind);
-    part[1] = words::word_of(source);
-    part[2] = words::word_of(target);
-    part[3] = p;
-    part[4] = q;
-    part[5] = r;
-    part[6] = 0;
-    part[7] = -1;
+    let kind = kind as i32;
+    [kind, word_of(source), word_of(target), p, q, r, 0, -1]
 }
 
-// The edge that its type, word 25 and the arguments mean.
-pub fn decode_transition(part: &mut [i32], kind: usize, s: usize, t: usize, a: i32, b: i32, c: i32)
-    requires { (length part.old ≡ 8) × (kind < 11) × (s < 2 ^ 31) × (t < 2 ^ 31) }
-    ensures { part.new ≡ edge_row 0 (meaning kind s t a b c) }
+// The edge that its type, word 25 and the arguments mean, as its eight words.
+pub fn decode_transition(kind: EdgeKind, raw: RawEdge) -> [i32; edge::WIDTH]
+    requires { (raw.source < 2 ^ 31) × (raw.target < 2 ^ 31) }
+    ensures { result ≡ edge_row 0 (meaning (edge_number kind) raw.source raw.target raw.a raw.b raw.c) }
 {
+    let RawEdge {
+        source: s,
+        target: t,
+        kind: _,
+        a,
+        b,
+        c,
+    } = raw;
     match kind {
-        1 => write_edge(part, kind, s, t, 0, 0, 0),
-        2 => write_edge(part, kind, s, t, arguments::label(a, c), b, 0),
-        3 => write_edge(part, kind, s, arguments::size(a), b, words::word_of(t), c),
-        4 => write_edge(part, kind, s, t, a, b, arguments::truth(c)),
-        5 => write_edge(part, kind, s, t, arguments::label(a, c), 0, 0),
-        6 => write_edge(part, kind, s, t, a, words::or_none(b), arguments::truth(c)),
-        7 => write_edge(part, kind, s, t, a, 0, 0),
-        8 => write_edge(part, kind, s, t, a, 0, 0),
-        10 => write_edge(part, kind, s, t, a, 0, 0),
-        _ => write_edge(part, kind, s, t, 0, 0, 0),
+        EdgeKind::Epsilon | EdgeKind::Wildcard => edge_row(kind, s, t, 0, 0, 0),
+        EdgeKind::Range => edge_row(kind, s, t, label(a, c), b, 0),
+        EdgeKind::Rule => edge_row(kind, s, index_of(a).unwrap_or(0), b, word_of(t), c),
+        EdgeKind::Predicate => edge_row(kind, s, t, a, b, truth(c)),
+        EdgeKind::Atom => edge_row(kind, s, t, label(a, c), 0, 0),
+        EdgeKind::Action => edge_row(kind, s, t, a, or_none(b), truth(c)),
+        EdgeKind::Set | EdgeKind::NotSet | EdgeKind::Precedence => edge_row(kind, s, t, a, 0, 0),
     }
 }

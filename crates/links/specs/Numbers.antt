@@ -1,14 +1,13 @@
 -- The tests of a word, by the record's number that it is.
-use Rattle.std.specs.Prelude.{◌≡◌, refl, Bool, true, false, ◌&&◌, ℕ, ◌+◌, ◌≤◌, ◌<◌, ◌^◌, ℤ, pos, negsuc}
+use Rattle.std.specs.Prelude.{◌≡◌, refl, Bool, true, false, ◌&&◌, ℕ, ◌+◌, ◌≤◌, ◌<◌, ◌^◌, ℤ, pos, negsuc, Some, None}
 use Rattle.std.proofs.Common.{sym, ◌∙◌, arith, ltb-true, lt-ltb, le-ltb, eq-eqb, ne_eqb}
 use Rattle.format.specs.Reading.{pick}
 use Rattle.format.specs.Sections.{same, size}
 use Rattle.format.specs.Links.{names}
 use Rattle.inplace.specs.Rows.{one_more}
 use Rattle.tables.specs.Words.{number_of, number_word}
-use Rattle.words.specs.Signs.{sign_of}
+use Rattle.words.specs.Signs.{index_of}
 use Rattle.words.specs.Laws.{natural-size}
-use Rattle.words.specs.declared.Sign.TheVariants.{Natural, Negative}
 
 module _ (z : ℤ) {i : ℕ} (n : ℕ) (e : i ≡ number_of z) where
   -- a number below n, of at most so many as any table has
@@ -48,20 +47,20 @@ same_no (negsuc m) k e h = refl
 
 -- ---- by the sign
 
-module _ (z : ℤ) {n : ℕ} (e : sign_of z ≡ Natural n) where
+module _ (z : ℤ) {n : ℕ} (e : index_of z ≡ Some n) where
   pub one_more_is : n < 2147483647 → one_more z ≡ pos (n + 1)
   one_more_is h = rw (natural-size z n e, lt-ltb n 2147483647 h) refl
 
   pub one_more-most : 2147483647 ≤ n → one_more z ≡ z
   one_more-most h = rw (natural-size z n e, le-ltb n 2147483647 h) refl
 
-pub one_more_nonsense : (z : ℤ) → sign_of z ≡ Negative → one_more z ≡ z
+pub one_more_nonsense : (z : ℤ) → index_of z ≡ None → one_more z ≡ z
 one_more_nonsense (pos n) e = absurd (let q : ◌≡◌ {A = ℕ} 0 1 = cc in omega arith)
 one_more_nonsense (negsuc n) e = refl
 
-pub size_is : (z : ℤ) {n : ℕ} → sign_of z ≡ Natural n → size z ≡ n
+pub size_is : (z : ℤ) {n : ℕ} → index_of z ≡ Some n → size z ≡ n
 size_is z {n} e = rw (natural-size z n e) refl
 
-pub size_nonsense : (z : ℤ) → sign_of z ≡ Negative → size z ≡ 0
+pub size_nonsense : (z : ℤ) → index_of z ≡ None → size z ≡ 0
 size_nonsense (pos n) e = absurd (let q : ◌≡◌ {A = ℕ} 0 1 = cc in omega arith)
 size_nonsense (negsuc n) e = refl

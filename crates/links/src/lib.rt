@@ -13,7 +13,6 @@ ghost use Rattle.links.specs.Lent.{LentTo, CountedIn};
 use format::Decoded;
 
 mod chains;
-mod numbers;
 mod precedence;
 mod returns;
 
@@ -42,10 +41,7 @@ pub fn add_return_edges(
     ensures says { (ws : List ℤ) (rooms : Table → ℕ) → rooms Edges ≡ room → held result (net states.new edges.new) ≡ onward (returning room rules.now) ws rooms (held sofar (net states.old edges.old)) }
     ensures lent { LentTo result room (length states.new) (length edges.new) (length rules.now) }
 {
-    match sofar {
-        Decoded::Accepted(counts) => returns::grow(counts, states, edges, rules, room),
-        Decoded::Refused(r) => Decoded::Refused(r),
-    }
+    returns::grow(sofar?, states, edges, rules, room)
 }
 
 // Flag 4 on every state that is a precedence decision.
@@ -58,18 +54,14 @@ pub fn mark_precedence_decisions(
     requires { CountedIn sofar (length states.old) (length edges.now) (length rules.now) }
     ensures { (ws : List ℤ) (rooms : Table → ℕ) → held result states.new ≡ onward (deciding rules.now edges.now) ws rooms (held sofar states.old) }
 {
-    match sofar {
-        Decoded::Accepted(counts) => {
-            precedence::mark_all(
-                states,
-                edges,
-                rules,
-                counts.states,
-                counts.edges,
-                counts.rules,
-            );
-            Decoded::Accepted(counts)
-        }
-        Decoded::Refused(r) => Decoded::Refused(r),
-    }
+    let counts = sofar?;
+    precedence::mark_all(
+        states,
+        edges,
+        rules,
+        counts.states,
+        counts.edges,
+        counts.rules,
+    );
+    Ok(counts)
 }

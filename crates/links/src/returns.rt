@@ -1,19 +1,34 @@
 // Return edges: "for each rule edge, by source state and then chain order, let R be the rule of its target state. If target, R
-// and R's stop all exist, an epsilon edge from that stop to the follow state is added". n states, k rules; m edges so far.
+// and R's stop all exist, an epsilon edge from that stop to the follow state is added".
 // From the Rust's atn/serialized.rs: the return edges of `deserialize_edges`.
 
-ghost use Rattle.std.specs.Prelude.{◌≡◌, List, ℕ, ◌+◌, ◌*◌, ◌<◌, ◌≤◌, ◌^◌, ℤ, pos, length};
-ghost use Rattle.format.specs.Reading.{Table, Edges, run};
+ghost use Rattle.std.specs.Prelude.{◌≡◌, List, ℕ, ◌+◌, ◌*◌, ◌<◌, ◌≤◌, ◌^◌, ltb, ℤ, pos, length, unwrap_or, Some, None, Ok};
+ghost use Rattle.std.specs.Option.{ForSome};
+ghost use Rattle.format.specs.Reading.{Table, Edges, run, pick};
 ghost use Rattle.format.specs.Sections.{size, edge_of};
 ghost use Rattle.inplace.specs.Held.{held, with};
 ghost use Rattle.inplace.specs.Rows.{word_of, edge_row};
-ghost use Rattle.inplace.specs.Links.{net, linked, growing, returning, returns_of, returned, returns_along, returns_from, returns as returnsIn, derived_counted};
+ghost use Rattle.inplace.specs.Links.{net as tables_of, linked, growing, returning, returns_of, returned, returns_along, returns_from, returns as returnsIn, derived_counted};
 ghost use Rattle.links.specs.Lent.{Listed, LentTo};
 ghost use Rattle.links.specs.Returns.{return_stop};
 
-use format::{Counts, Decoded, Spot};
+use format::kinds::EdgeKind;
+use format::reason::Reason;
+use format::{Counts, Decoded, Spot, edge, rule, state};
+use tables::net::Net;
+use tables::rows::Rows;
 
-// The state from which the return edge of the edge e starts; n where e has none.
+// The mark of an edge that was not read.
+const DERIVED: i32 = 1;
+
+// The number x, if it is one of n.
+fn among(n: usize, x: usize) -> Option<usize>
+    ensures { result ≡ pick (ltb x n) (Some x) None }
+{
+    (x < n).then_some(x)
+}
+
+// The state from which the return edge of the edge e starts. (No Net: any edge may be asked of whose record is there.)
 pub fn return_stop(
     states: &[i32],
     edges: &[i32],
@@ -21,53 +36,48 @@ pub fn return_stop(
     n: usize,
     k: usize,
     e: usize,
-) -> usize
+) -> Option<usize>
     requires { (Listed 8 n (length states.now)) × (8 * e + 8 ≤ length edges.now) × (Listed 3 k (length rules.now)) }
-    ensures { result ≡ return_stop n k rules.now (net states.now edges.now) e }
+    ensures starts { unwrap_or result n ≡ return_stop n k rules.now (tables_of states.now edges.now) e }
+    ensures listed { ForSome result (λ t. t < n) }
 {
-    if tables::number_at(edges, 8 * e) != 3 {
-        return n;
+    let at = edge::WIDTH * e;
+    if tables::number_at(edges, at + edge::KIND) != EdgeKind::Rule as usize {
+        return None;
     }
-    let target = tables::number_at(edges, 8 * e + 2);
-    if target >= n {
-        return n;
-    }
-    let rule = tables::number_at(states, 8 * target + 1);
-    if rule >= k {
-        return n;
-    }
-    let stop = tables::number_at(rules, 3 * rule + 1);
-    if stop < n { stop } else { n }
+    let target = among(n, tables::number_at(edges, at + edge::TARGET))?;
+    let rule = among(
+        k,
+        tables::number_at(states, state::WIDTH * target + state::RULE),
+    )?;
+    among(n, tables::number_at(rules, rule::WIDTH * rule + rule::STOP))
 }
 
 // Whether the edge e has a return edge.
-fn has_return(states: &[i32], edges: &[i32], rules: &[i32], n: usize, k: usize, e: usize) -> bool
-    requires { (Listed 8 n (length states.now)) × (8 * e + 8 ≤ length edges.now) × (Listed 3 k (length rules.now)) }
-    ensures { result ≡ returning n k rules.now (net states.now edges.now) e }
+fn has_return(net: &Net, e: usize) -> bool
+    requires { e < net.now.edges.count }
+    ensures { result ≡ returning net.now.states.count net.now.rules.count net.now.rules.words.now (tables_of net.now.states.words.now net.now.edges.words.now) e }
 {
-    return_stop(states, edges, rules, n, k, e) < n
+    return_stop(
+        net.states.words,
+        net.edges.words,
+        net.rules.words,
+        net.states.count,
+        net.rules.count,
+        e,
+    )
+    .is_some()
 }
 
 // How many of the edges have one. Few do, and the sum is left alone for the others.
-fn count_returns(
-    states: &[i32],
-    edges: &[i32],
-    rules: &[i32],
-    n: usize,
-    k: usize,
-    m: usize,
-) -> usize
-    requires { (Listed 8 n (length states.now)) × (8 * m ≤ length edges.now) × (Listed 3 k (length rules.now)) }
-    ensures { result ≡ returns_of n k rules.now (net states.now edges.now) m }
+fn count_returns(net: &Net) -> usize
+    ensures counted { result ≡ returns_of net.now.states.count net.now.rules.count net.now.rules.words.now (tables_of net.now.states.words.now net.now.edges.words.now) net.now.edges.count }
+    ensures few { result ≤ net.now.edges.count }
 {
     let mut d: usize = 0;
-    let mut i: usize = 0;
-    while i < m {
-        if has_return(states, edges, rules, n, k, i) {
+    for i in 0..net.edges.count {
+        if has_return(net, i) {
             d += 1;
-            i += 1;
-        } else {
-            i += 1;
         }
     }
     d
@@ -78,28 +88,23 @@ fn write_return(part: &mut [i32], stop: usize, follow: usize)
     requires { (length part.old ≡ 8) × (stop < 2 ^ 31) × (follow < 2 ^ 31) }
     ensures { part.new ≡ edge_row 1 (edge_of 1 stop follow (pos 0) (pos 0) (pos 0)) }
 {
-    part[0] = 1;
-    part[1] = words::word_of(stop);
-    part[2] = words::word_of(follow);
-    part[3] = 0;
-    part[4] = 0;
-    part[5] = 0;
-    part[6] = 1;
-    part[7] = -1;
+    let kind = EdgeKind::Epsilon as i32;
+    let (stop, follow) = (words::word_of(stop), words::word_of(follow));
+    part.copy_from_slice(&[kind, stop, follow, 0, 0, 0, DERIVED, -1]);
 }
 
 // The return edge from a stop to a follow state, as the i-th edge.
 fn link_return(states: &mut [i32], edges: &mut [i32], i: usize, stop: usize, follow: usize)
     requires { (8 * stop + 8 ≤ length states.old) × (8 * i + 8 ≤ length edges.old) × (i < 2 ^ 31) × (stop < 2 ^ 31) × (follow < 2 ^ 31) }
-    ensures { net states.new edges.new ≡ linked i 1 (edge_of 1 stop follow (pos 0) (pos 0) (pos 0)) (net states.old edges.old) }
+    ensures { tables_of states.new edges.new ≡ linked i 1 (edge_of 1 stop follow (pos 0) (pos 0) (pos 0)) (tables_of states.old edges.old) }
 {
-    let from = 8 * i;
-    let to = from + 8;
-    write_return(&mut edges[from..to], stop, follow);
+    let from = edge::WIDTH * i;
+    write_return(&mut edges[from..from + edge::WIDTH], stop, follow);
     crate::chain_edge(states, edges, i, stop);
 }
 
-// The return edge of the edge e, if it has one; answers how many edges there are then.
+// The return edge of the edge e, if it has one; answers how many edges there are then. (The tables and their counts are no struct here: one
+// that holds `&mut` tables would say in each method that both references and three numbers stay, five facts in place of the three below.)
 fn add_return(
     states: &mut [i32],
     edges: &mut [i32],
@@ -111,18 +116,16 @@ fn add_return(
     m: usize,
 ) -> usize
     requires { (Listed 8 n (length states.old)) × (Listed 8 room (length edges.old)) × (Listed 3 k (length rules.now)) × (m ≤ room) × (e < m) }
-    ensures { (growing (net states.new edges.new) result ≡ returned room n k rules.now e (growing (net states.old edges.old) m)) × (result ≤ room) }
+    ensures { (growing (tables_of states.new edges.new) result ≡ returned room n k rules.now e (growing (tables_of states.old edges.old) m)) × (result ≤ room) }
 {
-    let stop = return_stop(states, edges, rules, n, k, e);
-    if stop >= n {
-        return m;
+    match return_stop(states, edges, rules, n, k, e) {
+        Some(stop) if m < room => {
+            let follow = tables::size_at(edges, edge::WIDTH * e + edge::Q);
+            link_return(states, edges, m, stop, follow);
+            m + 1
+        }
+        _ => m,
     }
-    if m >= room {
-        return m;
-    }
-    let follow = crate::numbers::size_at(edges, 8 * e + 4);
-    link_return(states, edges, m, stop, follow);
-    m + 1
 }
 
 // Those of the edges in the chain of the state s.
@@ -137,18 +140,16 @@ fn add_along(
     before: usize,
 ) -> usize
     requires { (Listed 8 n (length states.old)) × (Listed 8 room (length edges.old)) × (Listed 3 k (length rules.now)) × (before ≤ room) × (s < n) }
-    ensures { (growing (net states.new edges.new) result ≡ returns_along room n k rules.now (size (word_of 8 states.old s 7)) (word_of 8 states.old s 5) (growing (net states.old edges.old) before)) × (result ≤ room) }
+    ensures { (growing (tables_of states.new edges.new) result ≡ returns_along room n k rules.now (size (word_of 8 states.old s 7)) (word_of 8 states.old s 5) (growing (tables_of states.old edges.old) before)) × (result ≤ room) }
 {
     let mut m = before;
-    let mut e = tables::number_at(states, 8 * s + 5);
-    let mut left = crate::numbers::size_at(states, 8 * s + 7);
-    while left > 0 {
+    let mut e = tables::number_at(states, state::WIDTH * s + state::FIRST);
+    for _ in 0..tables::size_at(states, state::WIDTH * s + state::COUNT) {
         if e >= m {
             return m;
         }
         m = add_return(states, edges, rules, n, k, room, e, m);
-        e = tables::number_at(edges, 8 * e + 7);
-        left -= 1;
+        e = tables::number_at(edges, edge::WIDTH * e + edge::NEXT);
     }
     m
 }
@@ -164,24 +165,12 @@ fn add_all(
     before: usize,
 )
     requires { (Listed 8 n (length states.old)) × (Listed 8 room (length edges.old)) × (Listed 3 k (length rules.now)) × (before ≤ room) }
-    ensures { net states.new edges.new ≡ (returns_from room n k rules.now n (growing (net states.old edges.old) before)).tables }
+    ensures { tables_of states.new edges.new ≡ (returns_from room n k rules.now n (growing (tables_of states.old edges.old) before)).tables }
 {
     let mut m = before;
-    let mut s: usize = 0;
-    while s < n {
+    for s in 0..n {
         m = add_along(states, edges, rules, n, k, room, s, m);
-        s += 1;
     }
-}
-
-fn with_derived(counts: Counts, d: usize) -> Counts
-    requires { (counts.edges ≤ 65536) × (d ≤ 65536) }
-    ensures { result ≡ derived_counted counts d }
-{
-    let mut c = counts;
-    c.edges = counts.edges + d;
-    c.derived = d;
-    c
 }
 
 // All of them, or the refusal, after what was accepted.
@@ -192,27 +181,44 @@ pub fn grow(
     rules: &[i32],
     room: usize,
 ) -> Decoded
-    requires { LentTo (Decoded.Accepted counts) room (length states.old) (length edges.old) (length rules.now) }
-    ensures says { (ws : List ℤ) (rooms : Table → ℕ) → rooms Edges ≡ room → held result (net states.new edges.new) ≡ run (returnsIn room rules.now (with counts (net states.old edges.old))) ws rooms counts.words }
+    requires { LentTo (Ok counts) room (length states.old) (length edges.old) (length rules.now) }
+    ensures says { (ws : List ℤ) (rooms : Table → ℕ) → rooms Edges ≡ room → held result (tables_of states.new edges.new) ≡ run (returnsIn room rules.now (with counts (tables_of states.old edges.old))) ws rooms counts.words }
     ensures lent { LentTo result room (length states.new) (length edges.new) (length rules.now) }
 {
-    let n = counts.states;
-    let k = counts.rules;
     let m = counts.edges;
-    let place = counts.words;
-    let d = count_returns(states, edges, rules, n, k, m);
-    if m + d <= room {
-        add_all(states, edges, rules, n, k, room, m);
-        Decoded::Accepted(with_derived(counts, d))
-    } else {
-        Decoded::Refused(words::refused(
-            12,
-            Spot {
-                field: 23,
-                record: 0,
-            },
-            place,
+    let listed_states = Rows {
+        words: states,
+        count: counts.states,
+    };
+    let listed_edges = Rows {
+        words: edges,
+        count: m,
+    };
+    let listed_rules = Rows {
+        words: rules,
+        count: counts.rules,
+    };
+    let d = count_returns(&Net {
+        states: listed_states,
+        edges: listed_edges,
+        rules: listed_rules,
+    });
+    if m + d > room {
+        let spot = Spot {
+            field: 23,
+            record: 0,
+        };
+        return Err(words::refused(
+            Reason::NoRoom as u32,
+            spot,
+            counts.words,
             words::word_of(m + d),
-        ))
+        ));
     }
+    add_all(states, edges, rules, counts.states, counts.rules, room, m);
+    Ok(Counts {
+        edges: m + d,
+        derived: d,
+        ..counts
+    })
 }

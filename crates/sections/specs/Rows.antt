@@ -1,10 +1,16 @@
 -- What a program reads, as its record's words.
-use Rattle.std.specs.Prelude.{List, ℕ, ℤ}
+use Rattle.std.specs.Prelude.{List, ℕ, ℤ, Ok, Err}
 use Rattle.format.specs.declared.Spot.{Spot}
-use Rattle.format.specs.Reading.{Prog, done, ◌>>=◌, spot, known, index}
+use Rattle.format.specs.Reading.{Outcome, ok, no, Prog, done, ◌>>=◌, spot, known, index}
 use Rattle.format.specs.Sections.{State, Action, action_of}
 use Rattle.format.specs.Tables.{state_word, action_words}
+use Rattle.words.specs.Answers.{Read}
 use Rattle.inplace.specs.Rows.{state_row}
+
+-- What was read, by its number.
+abbrev pub numbered : {A : Type 0} → (A → ℕ) → Read A → Outcome ℕ
+numbered number (Ok (v, n)) = ok (number v) n
+numbered number (Err r) = no r
 
 abbrev pub as_row : Prog State → Prog (List ℤ)
 as_row p = p >>= (λ x. done (state_row x))

@@ -1,14 +1,12 @@
 -- How a program goes on behind a word that was read, and inside a longer program.
-use Rattle.std.specs.Prelude.{◌≡◌, List, ℕ, ℤ}
+use Rattle.std.specs.Prelude.{◌≡◌, List, ℕ, ℤ, Ok, Err}
 use Rattle.std.proofs.Math.Path.{refl}
 use Rattle.std.proofs.Common.{sym, ap, ◌∙◌}
 use Rattle.format.specs.Reading.{Table, Outcome, ok, no, Prog, word, run, ◌>>=◌, get}
 use Rattle.format.specs.declared.Refusal.{Refusal}
 use Rattle.format.specs.declared.Spot.{Spot}
 use Rattle.laws.specs.Running.{after, run_bind, ok_then, no_then}
-use Rattle.words.specs.Answers.{told}
-use Rattle.words.specs.declared.Step.{Step}
-use Rattle.words.specs.declared.Step.TheVariants as S
+use Rattle.words.specs.Answers.{Step, told}
 
 -- a word, and what its value leads to
 module _ {A : Type 0} (f : Spot) (k : ℕ → ℤ → Prog A) (ws : List ℤ) (room : Table → ℕ) (at : ℕ) where
@@ -35,5 +33,5 @@ module _ {A B C : Type 0} (p : Prog A) (k : A → Prog B) (f : B → Prog C) (ws
 
 -- a step that changes the table alone
 pub told_map : (r : Step) (l : List ℤ) (f : List ℤ → List ℤ) → told r (f l) ≡ after (told r l) (λ t n. ok (f t) n)
-told_map (S.Next n) l f = refl
-told_map (S.Refused q) l f = refl
+told_map (Ok n) l f = refl
+told_map (Err q) l f = refl

@@ -5,37 +5,33 @@ ghost use Rattle.std.specs.Prelude.{◌≡◌, ℕ, ◌+◌, ◌*◌, ◌≤◌,
 ghost use Rattle.format.specs.Reading.{Table, run};
 ghost use Rattle.format.specs.Sections.{named};
 ghost use Rattle.laws.specs.Running.{turns};
-ghost use Rattle.words.specs.Answers.{outcome_ix, told, Below};
+ghost use Rattle.words.specs.Answers.{outcome, told, Below};
 ghost use Rattle.inplace.specs.Held.{held, onward, with};
 ghost use Rattle.inplace.specs.Sections as spec;
 ghost use Rattle.sections.specs.Tables.{StatesIn};
 
+use format::reason::Reason;
 use format::{Counts, Decoded, Spot};
-use words::{Index, Step};
+use words::{Read, Step};
 
-// Field 10 or 12: one of the n states, else refusal 7.
-fn read_named(words: &[i32], at: usize, n: usize, spot: Spot) -> Index
-    ensures says { (rooms : Table → ℕ) → outcome_ix result ≡ run (named n spot) words.now rooms at }
+// Field 10 or 12: one of the n states, or why not.
+fn read_named(words: &[i32], at: usize, n: usize, spot: Spot) -> Read<usize>
+    ensures says { (rooms : Table → ℕ) → outcome result ≡ run (named n spot) words.now rooms at }
     ensures bounded { Below n result }
 {
-    match words::read_usize(words, at, spot) {
-        Index::Got(s, next) => words::listed(s, 7, n, spot, at, next),
-        Index::Refused(r) => Index::Refused(r),
-    }
+    let (s, next) = words::read_usize(words, at, spot)?;
+    words::listed(s, Reason::UnlistedState as u32, n, spot, at, next)
 }
 
-// The state that the word of this spot names gets the flag.
+// The state that the word of this spot names gets the flag. (The states are written, so they are no `Rows`; what is asked of them is what
+// `bits::set_flag` asks.)
 fn flag_one(states: &mut [i32], n: usize, bit: usize, words: &[i32], at: usize, spot: Spot) -> Step
     requires { (8 * n ≤ length states.old) × (bit < 2 ^ 31) }
     ensures { (rooms : Table → ℕ) → told result states.new ≡ run (spec.flag_one bit n spot.field spot.record states.old) words.now rooms at }
 {
-    match read_named(words, at, n, spot) {
-        Index::Got(s, next) => {
-            bits::set_flag(states, s, bit);
-            Step::Next(next)
-        }
-        Index::Refused(r) => Step::Refused(r),
-    }
+    let (s, next) = read_named(words, at, n, spot)?;
+    bits::set_flag(states, s, bit);
+    Ok(next)
 }
 
 // k states are flagged, one after another.
@@ -52,28 +48,10 @@ fn flag_all(
     ensures { (rooms : Table → ℕ) → told result states.new ≡ run (turns k 0 (spec.flag_one bit n field) states.old) words.now rooms first }
 {
     let mut at = first;
-    let mut i = 0;
-    while i < k {
-        match flag_one(states, n, bit, words, at, Spot { field, record: i }) {
-            Step::Next(next) => {
-                at = next;
-            }
-            Step::Refused(r) => {
-                return Step::Refused(r);
-            }
-        }
-        i += 1;
+    for i in 0..k {
+        at = flag_one(states, n, bit, words, at, Spot { field, record: i })?;
     }
-    Step::Next(at)
-}
-
-// The counts with the place of the next word.
-fn moved(counts: Counts, next: usize) -> Counts
-    ensures { result ≡ spec.moved counts next }
-{
-    let mut c = counts;
-    c.words = next;
-    c
+    Ok(at)
 }
 
 // The section behind what was accepted.
@@ -87,15 +65,13 @@ fn flag_counted(
     requires { (8 * counts.states ≤ length states.old) × (bit < 2 ^ 31) × (field < 100) }
     ensures { (rooms : Table → ℕ) → held result states.new ≡ run (spec.flagging bit field (with counts states.old)) words.now rooms counts.words }
 {
-    let at = counts.words;
     let n = counts.states;
-    match words::read_usize(words, at, Spot { field, record: 0 }) {
-        Index::Got(k, first) => match flag_all(states, n, bit, k, words, first, field + 1) {
-            Step::Next(end) => Decoded::Accepted(moved(counts, end)),
-            Step::Refused(r) => Decoded::Refused(r),
-        },
-        Index::Refused(r) => Decoded::Refused(r),
-    }
+    let (k, first) = words::read_usize(words, counts.words, Spot { field, record: 0 })?;
+    let end = flag_all(states, n, bit, k, words, first, field + 1)?;
+    Ok(Counts {
+        words: end,
+        ..counts
+    })
 }
 
 // A count at the field, and so many states at the next, which get the flag.
@@ -109,8 +85,5 @@ pub fn deserialize_flags(
     requires { StatesIn (length states.old) sofar × (bit < 2 ^ 31) × (field < 100) }
     ensures { (rooms : Table → ℕ) → held result states.new ≡ onward (spec.flagging bit field) words.now rooms (held sofar states.old) }
 {
-    match sofar {
-        Decoded::Accepted(counts) => flag_counted(counts, words, states, bit, field),
-        Decoded::Refused(r) => Decoded::Refused(r),
-    }
+    flag_counted(sofar?, words, states, bit, field)
 }

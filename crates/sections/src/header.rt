@@ -1,64 +1,53 @@
 // Fields 1 to 3: version, grammar type, max token type.
 // From the Rust's atn/serialized.rs: the head of `deserialize`.
 
-ghost use Rattle.std.specs.Prelude.{◌≡◌, ℕ, pos};
+ghost use Rattle.std.specs.Prelude.{◌≡◌, ℕ};
 ghost use Rattle.format.specs.Reading.{Table, run};
-ghost use Rattle.format.specs.Sections.{same, version, grammar};
+ghost use Rattle.format.specs.Sections.{version, grammar};
 ghost use Rattle.words.specs.Answers.{outcome};
 ghost use Rattle.inplace.specs.Sections as spec;
 
+use format::reason::Reason;
 use format::{Counts, Spot};
-use words::{Sign, Word};
+use words::Read;
 
-// Whether a word is that number.
-fn is_number(v: i32, n: usize) -> bool
-    ensures { result ≡ same v (pos n) }
-{
-    match words::sign_of(v) {
-        Sign::Natural(k) => k == n,
-        Sign::Negative => false,
-    }
-}
+const VERSION: i32 = 4;
 
-// The version: 4, else refusal 3.
-pub fn read_version(words: &[i32], at: usize) -> Word
+const LEXER: i32 = 0;
+
+const PARSER: i32 = 1;
+
+// The version, the only one that is read.
+pub fn read_version(words: &[i32], at: usize) -> Read<i32>
     ensures { (rooms : Table → ℕ) → outcome result ≡ run version words.now rooms at }
 {
     let spot = Spot {
         field: 1,
         record: 0,
     };
-    match words::read(words, at, spot) {
-        Word::Got(v, next) => {
-            if is_number(v, 4) {
-                Word::Got(v, next)
-            } else {
-                Word::Refused(words::refused(3, spot, at, v))
-            }
-        }
-        Word::Refused(r) => Word::Refused(r),
+    let (version, next) = words::read(words, at, spot)?;
+    if version == VERSION {
+        Ok((version, next))
+    } else {
+        Err(words::refused(Reason::WrongVersion as u32, spot, at, version))
     }
 }
 
-// The grammar type: 0, else refusal 4 for 1 and 5 for any other.
-pub fn read_grammar_type(words: &[i32], at: usize) -> Word
+// The grammar type, a lexer's.
+pub fn read_grammar_type(words: &[i32], at: usize) -> Read<i32>
     ensures { (rooms : Table → ℕ) → outcome result ≡ run grammar words.now rooms at }
 {
     let spot = Spot {
         field: 2,
         record: 0,
     };
-    match words::read(words, at, spot) {
-        Word::Got(v, next) => {
-            if is_number(v, 0) {
-                return Word::Got(v, next);
-            }
-            if is_number(v, 1) {
-                return Word::Refused(words::refused(4, spot, at, v));
-            }
-            Word::Refused(words::refused(5, spot, at, v))
-        }
-        Word::Refused(r) => Word::Refused(r),
+    let (grammar, next) = words::read(words, at, spot)?;
+    if grammar == LEXER {
+        Ok((grammar, next))
+    } else if grammar == PARSER {
+        Err(words::refused(Reason::ParserGrammar as u32, spot, at, grammar))
+    } else {
+        Err(words::refused(Reason::UnknownGrammar as u32, spot, at, grammar))
     }
 }
 

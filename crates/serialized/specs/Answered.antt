@@ -1,5 +1,5 @@
 -- What is answered and left behind, by what filling the tables came to.
-use Rattle.std.specs.Prelude.{◌≡◌, ℕ, ◌-◌, ◌*◌, ◌≤◌, ℤ, length}
+use Rattle.std.specs.Prelude.{◌≡◌, ℕ, ◌-◌, ◌*◌, ◌≤◌, ℤ, length, Ok, Err}
 use Rattle.std.proofs.Math.Path.{refl}
 use Rattle.std.proofs.Common.{sym, ap, ◌∙◌, subst, arith}
 use mathlib.Core.List.{List}
@@ -10,8 +10,7 @@ use Rattle.format.specs.Tables.{room, table, records, zeros, counts_of}
 use Rattle.format.specs.Decode.{dialect, Answer, answer, decoded}
 use Rattle.format.specs.declared.Refusal.{Refusal}
 use Rattle.format.specs.declared.Counts.{Counts}
-use Rattle.format.specs.declared.Decoded.{Decoded}
-use Rattle.format.specs.declared.Decoded.TheVariants as D
+use Rattle.format.specs.Results.{Decoded}
 use Rattle.laws.specs.Running.{after}
 use Rattle.laws.specs.Reading.{clash, forward}
 use Rattle.laws.specs.Fits.{read_roomed}
@@ -50,15 +49,15 @@ read_from at c =
 
 -- What is asked before the tables are settled, by what filling them came to: of an acceptance.
 abbrev pub Ready : ℕ → Decoded → Tables → Type 0
-Ready at (D.Accepted c) t = (at ≤ c.words) × (Linked t.states t.edges t.rules c.states c.edges c.rules) × (4 * c.states ≤ length t.scratch) × (t.scratch ≡ zeros (length t.scratch))
-Ready at (D.Refused q) t = Unit {0}
+Ready at (Ok c) t = (at ≤ c.words) × (Linked t.states t.edges t.rules c.states c.edges c.rules) × (4 * c.states ≤ length t.scratch) × (t.scratch ≡ zeros (length t.scratch))
+Ready at (Err q) t = Unit {0}
 
 -- And how they are settled: tail calls are marked and scratch is zero; or all is zero.
 abbrev pub Settled : ℕ → Decoded → Tables → Decoded → Tables → Type 0
-Settled at (D.Accepted c) t r u =
-    (r ≡ D.Accepted (read_from at c))
+Settled at (Ok c) t r u =
+    (r ≡ Ok (read_from at c))
     × (u ≡ tables t.states (marked c.states c.rules c.edges t.states t.edges) t.ranges t.sets t.rules t.modes t.decisions t.actions (zeros (length t.scratch)))
-Settled at (D.Refused q) t r u = (r ≡ D.Refused q) × (u ≡ blank (lengths t))
+Settled at (Err q) t r u = (r ≡ Err q) × (u ≡ blank (lengths t))
 
 module _ (lent : Table → ℕ) (ws : List ℤ) (at : ℕ) where
   abbrev pub filled : Outcome (Held Tables)
@@ -71,7 +70,7 @@ module _ (lent : Table → ℕ) (ws : List ℤ) (at : ℕ) where
     pub counted : counts_of read c.words ≡ c
     pub left : t ≡ unmarked read lent
 
-  pub accepts : (c : Counts) (t : Tables) → held (D.Accepted c) t ≡ filled → Accepts c t
+  pub accepts : (c : Counts) (t : Tables) → held (Ok c) t ≡ filled → Accepts c t
   accepts c t e = go (run dialect ws (room lent) at) refl (e ∙ filling_is lent ws at)
     where
       go : (o : Outcome Read) → run dialect ws (room lent) at ≡ o → ok (with c t) c.words ≡ after o (λ r n. ok (with (counts_of r n) (unmarked r lent)) n) → Accepts c t
@@ -82,7 +81,7 @@ module _ (lent : Table → ℕ) (ws : List ℤ) (at : ℕ) where
           record { read = r; ran = q ∙ ap (ok r) (sym m); counted = ap (counts_of r) m ∙ sym k; left = ap (λ (x : Held Tables). x.table) h }
       go (no x) q f = clash f
 
-  pub refuses : (q : Refusal) (t : Tables) → held (D.Refused q) t ≡ filled → run dialect ws (room lent) at ≡ no q
+  pub refuses : (q : Refusal) (t : Tables) → held (Err q) t ≡ filled → run dialect ws (room lent) at ≡ no q
   refuses q t e = go (run dialect ws (room lent) at) refl (e ∙ filling_is lent ws at)
     where
       go : (o : Outcome Read) → run dialect ws (room lent) at ≡ o → no q ≡ after o (λ r n. ok (with (counts_of r n) (unmarked r lent)) n) → run dialect ws (room lent) at ≡ no q
@@ -114,9 +113,9 @@ module _ (lent : Table → ℕ) (ws : List ℤ) (at : ℕ) where
     scratch_zero = such (λ c t. t.scratch ≡ zeros (lent Scratch)) refl
 
     -- and what is then answered and left
-    pub counts_are : D.Accepted (read_from at c) ≡ (decoded lent ws at).told
+    pub counts_are : Ok (read_from at c) ≡ (decoded lent ws at).told
     unfolding decoded counts_of
-    counts_are = rw a.ran (ap (λ (x : Counts). D.Accepted (read_from at x)) (sym a.counted))
+    counts_are = rw a.ran (ap (λ (x : Counts). Ok (read_from at x)) (sym a.counted))
 
     abbrev Left : Counts → Tables → Type 0
     Left c t =
@@ -130,13 +129,13 @@ module _ (lent : Table → ℕ) (ws : List ℤ) (at : ℕ) where
 
   -- tables that were filled are ready, and what is then answered and left is the definition's
   pub ready : (d : Decoded) (t : Tables) → held d t ≡ filled → length t.scratch ≡ lent Scratch → Ready at d t
-  ready (D.Accepted c) t e h = let a = accepts c t e in (place_is c t a, tables-linked c t a, omega (arith, scratch_long c t a), scratch_zero c t a ∙ ap zeros (sym h))
-  ready (D.Refused q) t e h = tt
+  ready (Ok c) t e h = let a = accepts c t e in (place_is c t a, tables-linked c t a, omega (arith, scratch_long c t a), scratch_zero c t a ∙ ap zeros (sym h))
+  ready (Err q) t e h = tt
 
   pub concluded : (d : Decoded) (t : Tables) (r : Decoded) (u : Tables) → held d t ≡ filled → length t.scratch ≡ lent Scratch → blank (lengths t) ≡ blank lent
       → Settled at d t r u → (r ≡ (decoded lent ws at).told) × (u ≡ left_by (decoded lent ws at))
   unfolding decoded
-  concluded (D.Accepted c) t r u e h b s =
+  concluded (Ok c) t r u e h b s =
       let a = accepts c t e in
       (s.0 ∙ counts_are c t a, s.1 ∙ rw (h, a.ran) (all_left c t a))
-  concluded (D.Refused q) t r u e h b s = let n = refuses q t e in (s.0 ∙ rw n refl, s.1 ∙ b ∙ rw n refl)
+  concluded (Err q) t r u e h b s = let n = refuses q t e in (s.0 ∙ rw n refl, s.1 ∙ b ∙ rw n refl)

@@ -1,9 +1,8 @@
 -- What each section says of its tables is what the whole program says of all.
-use Rattle.std.specs.Prelude.{◌≡◌, refl, List, ℕ, ℤ}
+use Rattle.std.specs.Prelude.{◌≡◌, refl, List, ℕ, ℤ, Ok, Err}
 use Rattle.std.proofs.Common.{◌∙◌}
 use Rattle.format.specs.Reading.{Table, States, Rules, Modes, Decisions, Actions, Prog, run}
-use Rattle.format.specs.declared.Decoded.{Decoded}
-use Rattle.format.specs.declared.Decoded.TheVariants as D
+use Rattle.format.specs.Results.{Decoded}
 use Rattle.inplace.specs.Held.{Held, held, onward, wide, lift, chain}
 use Rattle.inplace.specs.Sections.{header, section, flagging, stopping}
 use Rattle.inplace.specs.Sets.{Sets2, sets2, setting}
@@ -12,13 +11,13 @@ use Rattle.inplace.specs.Whole.{Tables, tables, put_states, put_rules, put_modes
 
 begun : (r : Decoded) (t : Tables) (ws : List ℤ) (rooms : Table → ℕ) → held r t ≡ onward (begin t) ws rooms (held r tt)
 unfolding run
-begun (D.Accepted c) t ws rooms = refl
-begun (D.Refused q) t ws rooms = refl
+begun (Ok c) t ws rooms = refl
+begun (Err q) t ws rooms = refl
 
 -- a section that reads other tables reads those held
 at_held : {Y B : Type 0} (k : Y → Held Y → Prog B) (ws : List ℤ) (rooms : Table → ℕ) (s : Decoded) (y : Y) → onward (k y) ws rooms (held s y) ≡ onward (λ h. k h.table h) ws rooms (held s y)
-at_held k ws rooms (D.Accepted c) y = refl
-at_held k ws rooms (D.Refused q) y = refl
+at_held k ws rooms (Ok c) y = refl
+at_held k ws rooms (Err q) y = refl
 
 abbrev states_of : Tables → List ℤ
 states_of t = t.states

@@ -4,7 +4,7 @@ use Rattle.std.proofs.Common.{arith}
 use Rattle.format.specs.Reading.{Table, States, Edges, Ranges, Sets, Rules, Modes, Decisions, Actions}
 use Rattle.format.specs.Tables.{nine, room}
 use Rattle.inplace.specs.Whole.{Tables}
-use Rattle.serialized.specs.declared.rooms.Rooms.{Rooms}
+use Rattle.serialized.specs.declared.lent.Rooms.{Rooms}
 
 -- The lengths of nine tables.
 abbrev pub lengths : Tables → Table → ℕ

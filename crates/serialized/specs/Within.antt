@@ -1,11 +1,10 @@
 -- While sections run, the counts stay within the rooms: what each section may ask of the tables that those before it filled.
-use Rattle.std.specs.Prelude.{◌≡◌, List, ℕ, ◌+◌, ◌≤◌, ℤ}
+use Rattle.std.specs.Prelude.{◌≡◌, List, ℕ, ◌+◌, ◌≤◌, ℤ, Ok, Err}
 use Rattle.std.proofs.Common.{sym, arith}
 use Rattle.format.specs.Reading.{Table, States, Edges, Sets, Rules, Modes, Decisions, Actions, Prog, run, ◌>>◌, spot, get, count, index}
 use Rattle.format.specs.Tables.{width}
 use Rattle.format.specs.declared.Counts.{Counts}
-use Rattle.format.specs.declared.Decoded.{Decoded}
-use Rattle.format.specs.declared.Decoded.TheVariants as D
+use Rattle.format.specs.Results.{Decoded}
 use Rattle.laws.specs.Running.{turns}
 use Rattle.laws.specs.Collect.{puts}
 use Rattle.laws.specs.Gives.{Gives, gives_bind, gives_run, gives_count, then}
@@ -23,8 +22,8 @@ pub record Within (rooms : Table → ℕ) (c : Counts) : Type 0 where
   pub rules : c.rules ≤ rooms Rules
 
 abbrev pub Roomed : (Table → ℕ) → Decoded → Type 0
-Roomed rooms (D.Accepted c) = Within rooms c
-Roomed rooms (D.Refused r) = Unit {0}
+Roomed rooms (Ok c) = Within rooms c
+Roomed rooms (Err r) = Unit {0}
 
 abbrev W : ℤ → Type 0
 W v = Unit {0}
@@ -35,10 +34,10 @@ Keeps {X} rooms p = (h : Held X) → Within rooms h.counts → Gives W rooms (λ
 -- a section that keeps them within keeps what the code has come to so
 pub kept : {X : Type 0} (rooms : Table → ℕ) (p : Held X → Prog (Held X)) → Keeps rooms p → (ws : List ℤ) (s r : Decoded) (x y : X)
     → held r y ≡ onward p ws rooms (held s x) → Roomed rooms s → Roomed rooms r
-kept rooms p g ws (D.Refused q) (D.Refused r) x y e h = tt
-kept rooms p g ws (D.Refused q) (D.Accepted c) x y e h = absurd (let z : ◌≡◌ {A = ℕ} 0 1 = cc in omega arith)
-kept rooms p g ws (D.Accepted c) (D.Refused r) x y e h = tt
-kept {X} rooms p g ws (D.Accepted c) (D.Accepted d) x y e h =
+kept rooms p g ws (Err q) (Err r) x y e h = tt
+kept rooms p g ws (Err q) (Ok c) x y e h = absurd (let z : ◌≡◌ {A = ℕ} 0 1 = cc in omega arith)
+kept rooms p g ws (Ok c) (Err r) x y e h = tt
+kept {X} rooms p g ws (Ok c) (Ok d) x y e h =
     gives_run W rooms (λ (k : Held X). Within rooms k.counts) (p (with c x)) (g (with c x) h) ws c.words (λ i l. tt) (sym e)
 
 -- the property that is kept, of what a section gives
@@ -98,5 +97,5 @@ returns-keep rooms room ru h w = λ p l. record { states = w.states; edges = l; 
 -- the header counts nothing yet
 pub header_roomed : (rooms : Table → ℕ) (ws : List ℤ) (at : ℕ) (d : Decoded) → held d tt ≡ run header ws rooms at → Roomed rooms d
 unfolding header Gives
-header_roomed rooms ws at (D.Refused r) e = tt
-header_roomed rooms ws at (D.Accepted c) e = gives_run W rooms (Inside (Unit {0}) rooms) header (then W rooms (Inside (Unit {0}) rooms) (version >> grammar >> get (spot 3 0)) begun (λ v p. record { states = omega arith; edges = omega arith; sets = omega arith; rules = omega arith })) ws at (λ i l. tt) (sym e)
+header_roomed rooms ws at (Err r) e = tt
+header_roomed rooms ws at (Ok c) e = gives_run W rooms (Inside (Unit {0}) rooms) header (then W rooms (Inside (Unit {0}) rooms) (version >> grammar >> get (spot 3 0)) begun (λ v p. record { states = omega arith; edges = omega arith; sets = omega arith; rules = omega arith })) ws at (λ i l. tt) (sym e)

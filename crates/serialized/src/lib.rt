@@ -6,9 +6,10 @@ ghost use Rattle.inplace.specs.Whole.{tables};
 ghost use Rattle.serialized.specs.Answered.{Decodes};
 
 use format::Decoded;
+use lent::Lent;
 
 mod filling;
-mod rooms;
+mod lent;
 mod settling;
 
 // Decodes the words from a place on. Whatever the tables held, they hold the definition's words afterwards: an accepted list's records and
@@ -30,13 +31,19 @@ pub fn deserialize(
         words.now at result
         (tables states.new edges.new ranges.new sets.new rules.new modes.new decisions.new actions.new scratch.new) }
 {
-    let rooms = rooms::prepare(
-        states, edges, ranges, sets, rules, modes, decisions, actions, scratch,
-    );
-    let filled = filling::fill(
-        words, at, rooms, states, edges, ranges, sets, rules, modes, decisions, actions,
-    );
-    settling::settle(
-        filled, at, states, edges, ranges, sets, rules, modes, decisions, actions, scratch,
-    )
+    let mut lent = Lent {
+        states,
+        edges,
+        ranges,
+        sets,
+        rules,
+        modes,
+        decisions,
+        actions,
+        scratch,
+    };
+    let rooms = lent.rooms();
+    lent.clear();
+    let filled = filling::fill(words, at, rooms, &mut lent);
+    settling::settle(filled, at, &mut lent)
 }

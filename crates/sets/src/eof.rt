@@ -5,32 +5,20 @@
 ghost use Rattle.std.specs.Prelude.{◌≡◌, ℕ, ◌+◌, ◌<◌, ◌≤◌, ◌^◌};
 ghost use Rattle.format.specs.Reading.{Table, Ranges, run, no_room};
 ghost use Rattle.format.specs.Sections as spec;
-ghost use Rattle.sets.specs.Answers.{outcome_flag, Roomy};
+ghost use Rattle.words.specs.Answers.{outcome};
+ghost use Rattle.sets.specs.Answers.{Roomy};
 
+use format::reason::Reason;
 use format::{Refusal, Spot};
-use words::Word;
+use words::Read;
 
-// The EOF flag and the place of the next word, or why not.
-#[derive(Clone, Copy)]
-pub enum Flag {
-    Got(bool, usize),
-    Refused(Refusal),
-}
-
-// How many ranges a flag adds.
-fn bit(flagged: bool) -> usize
-    ensures { result ≡ spec.bit flagged }
-{
-    if flagged { 1 } else { 0 }
-}
-
-// There is no room for so many records, which may be more than a word can say.
+// There is no room for so many records. (`words::refused` takes a word, and so many may be more than a word can say.)
 fn no_room(spot: Spot, place: usize, needed: usize) -> Refusal
     requires { needed < 2 ^ 63 }
     ensures { result ≡ no_room spot place needed }
 {
     Refusal {
-        number: 12,
+        number: Reason::NoRoom as u32,
         field: spot.field,
         record: spot.record,
         place,
@@ -46,22 +34,18 @@ pub fn read_flag(
     kept: usize,
     n: usize,
     room: usize,
-) -> Flag
+) -> Read<bool>
     requires { (kept ≤ 65536) × (n < 2 ^ 31) }
-    ensures says { (rooms : Table → ℕ) → rooms Ranges ≡ room → outcome_flag result ≡ run (spec.flagged «record» kept n) words.now rooms at }
+    ensures says { (rooms : Table → ℕ) → rooms Ranges ≡ room → outcome result ≡ run (spec.flagged «record» kept n) words.now rooms at }
     ensures roomy { Roomy (kept + n) room result }
 {
     let spot = Spot { field: 20, record };
-    match words::read(words, at, spot) {
-        Word::Got(v, next) => {
-            let flagged = words::raised(v);
-            let needed = kept + n + bit(flagged);
-            if needed <= room {
-                Flag::Got(flagged, next)
-            } else {
-                Flag::Refused(no_room(spot, at, needed))
-            }
-        }
-        Word::Refused(r) => Flag::Refused(r),
+    let (word, next) = words::read(words, at, spot)?;
+    let flagged = words::raised(word);
+    let needed = kept + n + usize::from(flagged);
+    if needed <= room {
+        Ok((flagged, next))
+    } else {
+        Err(no_room(spot, at, needed))
     }
 }

@@ -10,25 +10,17 @@ ghost use Rattle.sets.specs.Answers.{told_ix, keeping_of};
 ghost use Rattle.sets.specs.Sets.{set_rest};
 
 use crate::merging;
-use words::Index;
-
-// The two words of a record.
-fn write_set(part: &mut [i32], first: usize, count: usize)
-    requires { (length part.old ≡ 2) × (first < 2 ^ 31) × (count < 2 ^ 31) }
-    ensures { part.new ≡ pos first ∷ pos count ∷ [] }
-{
-    tables::store(part, 0, first);
-    tables::store(part, 1, count);
-}
+use format::range;
+use format::set::WIDTH;
+use words::{Read, word_of};
 
 // The i-th record.
 fn put_set(sets: &mut [i32], i: usize, first: usize, count: usize)
     requires { (2 * i + 2 ≤ length sets.old) × (first < 2 ^ 31) × (count < 2 ^ 31) }
     ensures { sets.new ≡ put 2 i (pos first ∷ pos count ∷ []) sets.old }
 {
-    let from = 2 * i;
-    let to = from + 2;
-    write_set(&mut sets[from..to], first, count);
+    let from = WIDTH * i;
+    sets[from..from + WIDTH].copy_from_slice(&[word_of(first), word_of(count)]);
 }
 
 // The i-th set, of n intervals, behind `kept` ranges: the rest of the range table, from the set's first range on, is lent onward to
@@ -42,17 +34,13 @@ pub fn keep_set(
     flagged: bool,
     words: &[i32],
     at: usize,
-) -> Index
+) -> Read<usize>
     requires { (kept + n + bit flagged ≤ 65536) × (2 * (kept + n + bit flagged) ≤ length ranges.old) × (2 * i + 2 ≤ length sets.old) }
     ensures says { (rooms : Table → ℕ) → told_ix result (keeping_of ranges.new sets.new) ≡ run (set_rest i (keeping_of ranges.old sets.old kept) n flagged) words.now rooms at }
     ensures bounded { Below (kept + n + bit flagged + 1) result }
 {
-    let from = 2 * kept;
-    match merging::merge_set(&mut ranges[from..], i, flagged, n, words, at) {
-        Index::Got(count, next) => {
-            put_set(sets, i, kept, count);
-            Index::Got(kept + count, next)
-        }
-        Index::Refused(r) => Index::Refused(r),
-    }
+    let from = range::WIDTH * kept;
+    let (count, next) = merging::merge_set(&mut ranges[from..], i, flagged, n, words, at)?;
+    put_set(sets, i, kept, count);
+    Ok((kept + count, next))
 }

@@ -12,15 +12,15 @@ ghost use Rattle.std.specs.Prelude.{◌≡◌, ℕ, ◌+◌, ◌*◌, ◌≤◌,
 ghost use Rattle.format.specs.Reading.{Table, Ranges, Sets, run};
 ghost use Rattle.laws.specs.Running.{turns};
 ghost use Rattle.inplace.specs.Held.{held, onward, with};
-ghost use Rattle.inplace.specs.Sets.{sets2, set_one, sets_counted, setting};
+ghost use Rattle.inplace.specs.Sets.{sets2, set_one, setting};
 ghost use Rattle.words.specs.Answers.{Below};
 ghost use Rattle.sets.specs.Answers.{told_ix, keeping_of};
 
-use eof::Flag;
 use format::{Counts, Decoded, Spot};
-use words::Index;
+use words::Read;
 
-// The i-th set, behind `kept` ranges: answers how many ranges are kept then.
+// The i-th set, behind `kept` ranges: answers how many ranges are kept then. (Both tables are written, so they are no `Rows`; a struct of
+// two `&mut` would say in each method that both references stay, and saves one parameter.)
 fn deserialize_set(
     ranges: &mut [i32],
     sets: &mut [i32],
@@ -29,27 +29,18 @@ fn deserialize_set(
     room: usize,
     words: &[i32],
     at: usize,
-) -> Index
+) -> Read<usize>
     requires { (kept ≤ room) × (room ≤ 65536) × (2 * room ≤ length ranges.old) × (2 * i + 2 ≤ length sets.old) }
     ensures says { (rooms : Table → ℕ) → rooms Ranges ≡ room → told_ix result (keeping_of ranges.new sets.new) ≡ run (set_one i (keeping_of ranges.old sets.old kept)) words.now rooms at }
     ensures bounded { Below (room + 1) result }
 {
-    match words::read_usize(
-        words,
-        at,
-        Spot {
-            field: 19,
-            record: i,
-        },
-    ) {
-        Index::Got(n, next) => match eof::read_flag(i, words, next, kept, n, room) {
-            Flag::Got(flagged, first) => {
-                keeping::keep_set(ranges, sets, i, kept, n, flagged, words, first)
-            }
-            Flag::Refused(r) => Index::Refused(r),
-        },
-        Index::Refused(r) => Index::Refused(r),
-    }
+    let spot = Spot {
+        field: 19,
+        record: i,
+    };
+    let (n, next) = words::read_usize(words, at, spot)?;
+    let (flagged, first) = eof::read_flag(i, words, next, kept, n, room)?;
+    keeping::keep_set(ranges, sets, i, kept, n, flagged, words, first)
 }
 
 // n sets, one after another: answers how many ranges are kept.
@@ -60,37 +51,16 @@ fn fill(
     room: usize,
     words: &[i32],
     first: usize,
-) -> Index
+) -> Read<usize>
     requires { (room ≤ 65536) × (2 * room ≤ length ranges.old) × (2 * n ≤ length sets.old) }
     ensures { (rooms : Table → ℕ) → rooms Ranges ≡ room → told_ix result (keeping_of ranges.new sets.new) ≡ run (turns n 0 set_one (keeping_of ranges.old sets.old 0)) words.now rooms first }
 {
-    let mut kept: usize = 0;
+    let mut kept = 0;
     let mut at = first;
-    let mut i: usize = 0;
-    while i < n {
-        match deserialize_set(ranges, sets, i, kept, room, words, at) {
-            Index::Got(more, next) => {
-                kept = more;
-                at = next;
-            }
-            Index::Refused(r) => {
-                return Index::Refused(r);
-            }
-        }
-        i += 1;
+    for i in 0..n {
+        (kept, at) = deserialize_set(ranges, sets, i, kept, room, words, at)?;
     }
-    Index::Got(kept, at)
-}
-
-// The counts with n sets, their ranges, and the place behind them.
-fn counted(counts: Counts, n: usize, kept: usize, next: usize) -> Counts
-    ensures { result ≡ sets_counted counts n kept next }
-{
-    let mut c = counts;
-    c.words = next;
-    c.ranges = kept;
-    c.sets = n;
-    c
+    Ok((kept, at))
 }
 
 // The section behind what was accepted.
@@ -105,14 +75,14 @@ fn fill_counted(
     requires { (room_ranges ≤ 65536) × (room_sets ≤ 65536) × (2 * room_ranges ≤ length ranges.old) × (2 * room_sets ≤ length sets.old) }
     ensures { (rooms : Table → ℕ) → rooms Ranges ≡ room_ranges → rooms Sets ≡ room_sets → held result (sets2 ranges.new sets.new) ≡ run (setting (with counts (sets2 ranges.old sets.old))) words.now rooms counts.words }
 {
-    let at = counts.words;
-    match words::read_count(words, at, 18, room_sets) {
-        Index::Got(n, first) => match fill(ranges, sets, n, room_ranges, words, first) {
-            Index::Got(kept, end) => Decoded::Accepted(counted(counts, n, kept, end)),
-            Index::Refused(r) => Decoded::Refused(r),
-        },
-        Index::Refused(r) => Decoded::Refused(r),
-    }
+    let (n, first) = words::read_count(words, counts.words, 18, room_sets)?;
+    let (kept, end) = fill(ranges, sets, n, room_ranges, words, first)?;
+    Ok(Counts {
+        words: end,
+        ranges: kept,
+        sets: n,
+        ..counts
+    })
 }
 
 // The sections so far, and then the sets.
@@ -127,10 +97,5 @@ pub fn deserialize_sets(
     requires { (room_ranges ≤ 65536) × (room_sets ≤ 65536) × (2 * room_ranges ≤ length ranges.old) × (2 * room_sets ≤ length sets.old) }
     ensures { (rooms : Table → ℕ) → rooms Ranges ≡ room_ranges → rooms Sets ≡ room_sets → held result (sets2 ranges.new sets.new) ≡ onward setting words.now rooms (held sofar (sets2 ranges.old sets.old)) }
 {
-    match sofar {
-        Decoded::Accepted(counts) => {
-            fill_counted(counts, words, ranges, sets, room_ranges, room_sets)
-        }
-        Decoded::Refused(r) => Decoded::Refused(r),
-    }
+    fill_counted(sofar?, words, ranges, sets, room_ranges, room_sets)
 }

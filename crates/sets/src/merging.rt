@@ -11,23 +11,17 @@ ghost use Rattle.sets.specs.Answers.{told_ix};
 ghost use Rattle.sets.specs.Merging as spec;
 
 use format::Spot;
-use words::{Index, Step, Word};
+use words::{Read, Step};
 
 // Fields 21 and 22: one interval, into the k-th range of the part. Its words belong to the set with the number `record`.
 fn deserialize_interval(part: &mut [i32], record: usize, k: usize, words: &[i32], at: usize) -> Step
     requires { 2 * k + 2 ≤ length part.old }
     ensures { (rooms : Table → ℕ) → told result part.new ≡ run (spec.gather_one «record» k part.old) words.now rooms at }
 {
-    match words::read(words, at, Spot { field: 21, record }) {
-        Word::Got(start, second) => match words::read(words, second, Spot { field: 22, record }) {
-            Word::Got(stop, next) => {
-                ordering::put(part, k, start, stop);
-                Step::Next(next)
-            }
-            Word::Refused(r) => Step::Refused(r),
-        },
-        Word::Refused(r) => Step::Refused(r),
-    }
+    let (start, second) = words::read(words, at, Spot { field: 21, record })?;
+    let (stop, next) = words::read(words, second, Spot { field: 22, record })?;
+    ordering::put(part, k, start, stop);
+    Ok(next)
 }
 
 // n intervals, one after another, into the records from `first` on.
@@ -42,21 +36,11 @@ fn gather(
     requires { 2 * (n + first) ≤ length part.old }
     ensures { (rooms : Table → ℕ) → told result part.new ≡ run (turns n first (spec.gather_one «record») part.old) words.now rooms start }
 {
-    let end = n + first;
     let mut at = start;
-    let mut i = first;
-    while i < end {
-        match deserialize_interval(part, record, i, words, at) {
-            Step::Next(next) => {
-                at = next;
-            }
-            Step::Refused(r) => {
-                return Step::Refused(r);
-            }
-        }
-        i += 1;
+    for i in first..n + first {
+        at = deserialize_interval(part, record, i, words, at)?;
     }
-    Step::Next(at)
+    Ok(at)
 }
 
 // "The EOF flag, if not 0, adds -1": the records of a set before its intervals. Answers how many they are.
@@ -67,9 +51,8 @@ fn begin_set(part: &mut [i32], flagged: bool) -> usize
 {
     if flagged {
         ordering::put(part, 0, -1, -1);
-        return 1;
     }
-    0
+    usize::from(flagged)
 }
 
 // The set with that number, of n intervals. Its records are all written before any is read.
@@ -80,14 +63,12 @@ pub fn merge_set(
     n: usize,
     words: &[i32],
     at: usize,
-) -> Index
+) -> Read<usize>
     requires { (n ≤ 65536) × (2 * (n + bit flagged) ≤ length part.old) }
     ensures says { (rooms : Table → ℕ) → told_ix result (spec.part part.new) ≡ run (spec.merging «record» flagged n part.old) words.now rooms at }
     ensures bounded { Below (n + bit flagged + 1) result }
 {
     let first = begin_set(part, flagged);
-    match gather(part, record, first, n, words, at) {
-        Step::Next(next) => Index::Got(ranges::normalize(part, n + first), next),
-        Step::Refused(r) => Index::Refused(r),
-    }
+    let next = gather(part, record, first, n, words, at)?;
+    Ok((ranges::normalize(part, n + first), next))
 }

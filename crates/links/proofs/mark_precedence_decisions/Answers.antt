@@ -3,6 +3,6 @@ use Rattle.std.proofs.Common.{refl}
 use Rattle.format.specs.Reading.{run}
 use Rattle.links.proofs.mark_precedence_decisions.Goals as goal
 
-pub returns-in-Accepted : goal.returns-in-Accepted
+pub returns : goal.returns
 unfolding run
-returns-in-Accepted c = λ ws rooms. rw (c.in-Accepted.is, c.mark_all.ensures) refl
+returns c = λ ws rooms. rw (c.in_ok-counts.was, c.mark_all.ensures) refl

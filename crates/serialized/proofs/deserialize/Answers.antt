@@ -1,27 +1,36 @@
 -- `deserialize`: the tables are cleared, so that filling them runs over `blank`; what that came to decides the rest (`concluded`).
-use Rattle.std.proofs.Common.{◌≡◌, refl, ◌∙◌}
-use Rattle.format.specs.Reading.{run}
-use Rattle.format.specs.Tables.{room}
-use Rattle.inplace.specs.Held.{held}
-use Rattle.inplace.specs.Whole.{tables, filling}
-use Rattle.serialized.specs.Rooms.{lengths, they_are}
-use Rattle.serialized.specs.Answered.{filled, ready, concluded}
+use Rattle.std.proofs.Common.{subst, rules, ◌∙◌}
+use Rattle.inplace.specs.Whole.{Tables, tables}
+use Rattle.serialized.specs.Kept.{tables_of}
+use Rattle.serialized.specs.Rooms.{lengths}
+use Rattle.serialized.specs.Answered.{Decodes, ready}
+use Rattle.serialized.proofs.Lending.{filled_by, blank_alike, decodes}
 use Rattle.serialized.proofs.deserialize.Goals as goal
 
 pub settle-requires : goal.settle-requires
 settle-requires c =
-    let filled_is : held c.fill-filled.result (tables c.fill-filled.new.states c.fill-filled.new.edges c.fill-filled.new.ranges c.fill-filled.new.sets c.fill-filled.new.rules c.fill-filled.new.modes c.fill-filled.new.decisions c.fill-filled.new.actions c.prepare-rooms.new.scratch) ≡ filled (lengths (tables c.args.states.now c.args.edges.now c.args.ranges.now c.args.sets.now c.args.rules.now c.args.modes.now c.args.decisions.now c.args.actions.now c.args.scratch.now)) c.args.words.now c.args.at = let lent = lengths (tables c.args.states.now c.args.edges.now c.args.ranges.now c.args.sets.now c.args.rules.now c.args.modes.now c.args.decisions.now c.args.actions.now c.args.scratch.now) in
-    let rooms = c.prepare-rooms.ensures.rooms in
-    let cleared = c.prepare-rooms.ensures.cleared in
-    c.fill-filled.ensures (room lent) c.prepare-rooms.new.scratch (rw rooms (they_are lent)) ∙ (λ i. run (filling (rooms i).edges (cleared i)) c.args.words.now (room lent) c.args.at) in
-    ready (lengths (tables c.args.states.now c.args.edges.now c.args.ranges.now c.args.sets.now c.args.rules.now c.args.modes.now c.args.decisions.now c.args.actions.now c.args.scratch.now)) c.args.words.now c.args.at c.fill-filled.result (tables c.fill-filled.new.states c.fill-filled.new.edges c.fill-filled.new.ranges c.fill-filled.new.sets c.fill-filled.new.rules c.fill-filled.new.modes c.fill-filled.new.decisions c.fill-filled.new.actions c.prepare-rooms.new.scratch) filled_is c.prepare-rooms.auto.scratch
+    let a = c.args in
+    let ws = a.words.now in
+    let lent = lengths (tables a.states.now a.edges.now a.ranges.now a.sets.now a.rules.now a.modes.now a.decisions.now a.actions.now a.scratch.now) in
+    let l = c.clear.new.self in
+    let f = c.fill-filled in
+    let m = f.new.lent in
+    ready lent ws a.at f.result (tables_of m)
+    (filled_by lent ws a.at f.result (tables_of l) (tables_of m) c.rooms-rooms.result c.rooms-rooms.ensures c.clear.ensures.cleared f.ensures.filled)
+    (f.ensures.kept.scratch.1 ∙ c.clear.ensures.kept.scratch.1)
 
 pub returns : goal.returns
 returns c =
-    let filled_is : held c.fill-filled.result (tables c.fill-filled.new.states c.fill-filled.new.edges c.fill-filled.new.ranges c.fill-filled.new.sets c.fill-filled.new.rules c.fill-filled.new.modes c.fill-filled.new.decisions c.fill-filled.new.actions c.prepare-rooms.new.scratch) ≡ filled (lengths (tables c.args.states.now c.args.edges.now c.args.ranges.now c.args.sets.now c.args.rules.now c.args.modes.now c.args.decisions.now c.args.actions.now c.args.scratch.now)) c.args.words.now c.args.at = let lent = lengths (tables c.args.states.now c.args.edges.now c.args.ranges.now c.args.sets.now c.args.rules.now c.args.modes.now c.args.decisions.now c.args.actions.now c.args.scratch.now) in
-    let rooms = c.prepare-rooms.ensures.rooms in
-    let cleared = c.prepare-rooms.ensures.cleared in
-    c.fill-filled.ensures (room lent) c.prepare-rooms.new.scratch (rw rooms (they_are lent)) ∙ (λ i. run (filling (rooms i).edges (cleared i)) c.args.words.now (room lent) c.args.at) in
-    let x = concluded (lengths (tables c.args.states.now c.args.edges.now c.args.ranges.now c.args.sets.now c.args.rules.now c.args.modes.now c.args.decisions.now c.args.actions.now c.args.scratch.now)) c.args.words.now c.args.at c.fill-filled.result (tables c.fill-filled.new.states c.fill-filled.new.edges c.fill-filled.new.ranges c.fill-filled.new.sets c.fill-filled.new.rules c.fill-filled.new.modes c.fill-filled.new.decisions c.fill-filled.new.actions c.prepare-rooms.new.scratch) c.settle.result _ filled_is c.prepare-rooms.auto.scratch
-    (rw ((c.fill-filled.auto.states ∙ c.prepare-rooms.auto.states), (c.fill-filled.auto.edges ∙ c.prepare-rooms.auto.edges), (c.fill-filled.auto.ranges ∙ c.prepare-rooms.auto.ranges), (c.fill-filled.auto.sets ∙ c.prepare-rooms.auto.sets), (c.fill-filled.auto.rules ∙ c.prepare-rooms.auto.rules), (c.fill-filled.auto.modes ∙ c.prepare-rooms.auto.modes), (c.fill-filled.auto.decisions ∙ c.prepare-rooms.auto.decisions), (c.fill-filled.auto.actions ∙ c.prepare-rooms.auto.actions), c.prepare-rooms.auto.scratch) refl) c.settle.ensures in
-    record { told = x.0; left = x.1 }
+    let a = c.args in
+    let ws = a.words.now in
+    let t = tables a.states.now a.edges.now a.ranges.now a.sets.now a.rules.now a.modes.now a.decisions.now a.actions.now a.scratch.now in
+    let l = c.clear.new.self in
+    let f = c.fill-filled in
+    let m = f.new.lent in
+    let P : Tables → Type 0 = λ u. Decodes t ws a.at c.settle.result u in
+    subst P (search rules)
+    (decodes t ws a.at f.result c.settle.result m (tables_of c.settle.new.lent)
+    (filled_by (lengths t) ws a.at f.result (tables_of l) (tables_of m) c.rooms-rooms.result c.rooms-rooms.ensures c.clear.ensures.cleared f.ensures.filled)
+    (f.ensures.kept.scratch.1 ∙ c.clear.ensures.kept.scratch.1)
+    (blank_alike l m f.ensures.kept ∙ blank_alike _ l c.clear.ensures.kept)
+    c.settle.ensures.settled)

@@ -1,35 +1,31 @@
 -- `edges::edge::deserialize_edge` meets its contract: six words, then the type, then the other tests are `edge`. Assumes nothing.
-use Rattle.std.proofs.Common.{rules, sym, ap, ◌∙◌}
+use Rattle.std.proofs.Common.{rules, sym, ◌∙◌}
 use Rattle.laws.specs.Running.{ok_then, no_then}
+use Rattle.words.specs.Laws.{handed_on}
 use Rattle.words.proofs.Signs.{back32}
-use Rattle.edges.specs.Edge.{rowed, tested}
+use Rattle.edges.specs.Edge.{tested}
 use Rattle.edges.specs.Laws.{edge_is}
 use Rattle.edges.proofs.edge.deserialize_edge.Goals as goal
 
-pub returns-in-Got-known-clause-says : goal.returns-in-Got-known-clause-says
+pub returns-clause-says : goal.returns-clause-says
 unfolding tested
-returns-in-Got-known-clause-says c =
+returns-clause-says c =
     let a = c.args in
-    let ws = a.words.now in
-    let x = c.in-Got.e in
-    let six = rw c.in-Got.is at c.read_edge.ensures.says in
-    let kind = rw (c.in-Got-known.is, back32 x.kind (search rules)) at c.known.ensures.says in
-    λ rooms. c.check_edge.ensures.says ws rooms
-    ∙ sym (ap rowed (edge_is a.«record» a.nstates a.nsets ws rooms a.at ∙ ok_then _ _ _ _ _ (six rooms) ∙ ok_then _ _ _ _ _ (kind ws rooms)))
+    let kind = rw (back32 c.in_ok-raw.raw.kind (search rules)) at c.in_ok-kind.ensures in
+    λ rooms. c.check_edge.ensures.says a.words.now rooms
+    ∙ sym (edge_is a.«record» a.counts.now.states a.counts.now.sets a.words.now rooms a.at ∙ ok_then _ _ _ _ _ (c.in_ok-raw.ensures.says rooms) ∙ ok_then _ _ _ _ _ (kind a.words.now rooms))
 
-pub returns-in-Refused-known-clause-says : goal.returns-in-Refused-known-clause-says
+pub returns-in_err-kind-clause-says : goal.returns-in_err-kind-clause-says
 unfolding tested
-returns-in-Refused-known-clause-says c =
+returns-in_err-kind-clause-says c =
     let a = c.args in
-    let ws = a.words.now in
-    let x = c.in-Got.e in
-    let six = rw c.in-Got.is at c.read_edge.ensures.says in
-    let kind = rw (c.in-Refused-known.is, back32 x.kind (search rules)) at c.known.ensures.says in
-    λ rooms. sym (ap rowed (edge_is a.«record» a.nstates a.nsets ws rooms a.at ∙ ok_then _ _ _ _ _ (six rooms) ∙ no_then _ _ _ _ _ (kind ws rooms)))
+    let r = c.from_residual-in_err-kind in
+    let kind = rw (back32 c.in_ok-raw.raw.kind (search rules)) at c.in_err-kind.ensures in
+    λ rooms. rw (handed_on r.result c.in_err-kind.field-0.0 r.ensures.1)
+    (sym (edge_is a.«record» a.counts.now.states a.counts.now.sets a.words.now rooms a.at ∙ ok_then _ _ _ _ _ (c.in_ok-raw.ensures.says rooms) ∙ no_then _ _ _ _ _ (kind a.words.now rooms)))
 
-pub returns-in-Refused-clause-says : goal.returns-in-Refused-clause-says
-returns-in-Refused-clause-says c =
+pub returns-in_err-raw-clause-says : goal.returns-in_err-raw-clause-says
+returns-in_err-raw-clause-says c =
     let a = c.args in
-    let ws = a.words.now in
-    let six = rw c.in-Refused.is at c.read_edge.ensures.says in
-    λ rooms. sym (ap rowed (edge_is a.«record» a.nstates a.nsets ws rooms a.at ∙ no_then _ _ _ _ _ (six rooms)))
+    λ rooms. rw (handed_on c.from_residual.result c.in_err-raw.field-0.0 c.from_residual.ensures.1)
+    (sym (edge_is a.«record» a.counts.now.states a.counts.now.sets a.words.now rooms a.at ∙ no_then _ _ _ _ _ (c.in_err-raw.ensures.says rooms)))

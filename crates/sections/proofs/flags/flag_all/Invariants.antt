@@ -1,11 +1,7 @@
 -- `sections::flags::flag_all` meets its contract. The loop's invariant: after i turns the run goes on from here. Assumes nothing.
-use Rattle.std.proofs.Common.{◌≡◌, ◌-◌, ◌≤◌, length}
 use Rattle.inplace.specs.Sections.{flag_one}
 use Rattle.sections.specs.Turning.{Turned}
 use Rattle.sections.proofs.flags.flag_all.Given as goal
 
 abbrev pub invariant-loop-i : goal.invariant-loop-i
-invariant-loop-i l = (length l.states ≡ length l.initial.states) × (l.i ≤ l.k) × Turned (flag_one l.bit l.n l.field) l.k l.words l.initial.states l.first l.i l.states l.at
-
-abbrev pub decreases-loop-i : goal.decreases-loop-i
-decreases-loop-i l = l.k - l.i
+invariant-loop-i l = Turned (flag_one l.bit l.n l.field) l.k l.words l.initial.states l.first l.i l.states l.at

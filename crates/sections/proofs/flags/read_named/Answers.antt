@@ -5,6 +5,7 @@ use Rattle.format.specs.Sections.{named}
 use Rattle.format.specs.declared.Refusal.{Refusal}
 use Rattle.format.specs.declared.Spot.{Spot}
 use Rattle.laws.specs.Running.{ok_then, no_then}
+use Rattle.words.specs.Laws.{handed_on}
 use Rattle.sections.proofs.flags.read_named.Goals as goal
 
 module _ (n : ℕ) (f : Spot) (ws : List ℤ) (rooms : Table → ℕ) (at : ℕ) where
@@ -18,13 +19,13 @@ module _ (n : ℕ) (f : Spot) (ws : List ℤ) (rooms : Table → ℕ) (at : ℕ)
   named-no : {r : Refusal} → no r ≡ run (index f) ws rooms at → run (named n f) ws rooms at ≡ no r
   named-no e = named_is ∙ no_then (index f) (listed 7 n f at) ws rooms at e
 
-pub returns-in-Got-clause-says : goal.returns-in-Got-clause-says
-returns-in-Got-clause-says c = λ rooms.
+pub returns-in_err-s-clause-says : goal.returns-in_err-s-clause-says
+returns-in_err-s-clause-says c = λ rooms.
     let a = c.args in
-    c.listed.ensures.says a.words.now rooms
-    ∙ sym (named_ok a.n a.spot a.words.now rooms a.at (rw c.in-Got.is at (c.read_usize.ensures.says rooms)))
+    rw (handed_on c.from_residual.result c.in_err-s.field-0.0 c.from_residual.ensures.1)
+    (sym (named-no a.n a.spot a.words.now rooms a.at (c.in_err-s.ensures.says rooms)))
 
-pub returns-in-Refused-clause-says : goal.returns-in-Refused-clause-says
-returns-in-Refused-clause-says c = λ rooms.
+pub returns-clause-says : goal.returns-clause-says
+returns-clause-says c = λ rooms.
     let a = c.args in
-    sym (named-no a.n a.spot a.words.now rooms a.at (rw c.in-Refused.is at (c.read_usize.ensures.says rooms)))
+    c.listed.ensures.says a.words.now rooms ∙ sym (named_ok a.n a.spot a.words.now rooms a.at (c.in_ok-s.ensures.says rooms))
