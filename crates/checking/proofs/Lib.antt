@@ -1,3 +1,3 @@
 -- Lemmas of the functions' proofs.
 pub mod Tested
-mod Types
+pub mod Passing

@@ -1,5 +1,6 @@
 -- Ranges in a row, and sets in a row, tested one after the other.
-use Rattle.std.specs.Prelude.{◌≡◌, refl, List, [], ◌∷◌, Bool, true, false, ◌&&◌, ℕ, zero, suc, ◌+◌, ◌-◌, ◌*◌, ◌≤◌, ◌<◌, leb, ltb, eqb, ℤ, pos, length, take, drop}
+use Rattle.std.specs.Prelude.{◌≡◌, refl, List, [], ◌∷◌, Bool, true, false, ◌&&◌, ℕ, zero, suc, ◌+◌, ◌-◌, ◌*◌, ◌/◌, ◌≤◌, ◌<◌, leb, ltb, eqb, ℤ, pos, length, take, drop}
+use Rattle.std.specs.List.{list_all, range_with_len}
 use Rattle.std.proofs.Common.{sym, ap, ◌∙◌, arith, add-one, length-drop, drop-cons, leb-true, le-leb}
 use Rattle.std.proofs.Math.Bool.{and-true, and-false}
 use Rattle.std.proofs.Math.Nat.{sub-zero}
@@ -44,32 +45,21 @@ ranges_next v i h =
     let d = drop-cons v (2 * i) (pos 0) (omega arith) in
     let e = drop-cons v (suc (2 * i)) (pos 0) (omega arith) in rw (a, b) (ap ranges_of (d ∙ ap (λ (l : List ℤ). cell v (2 * i) ∷ l) e))
 
--- The first i ranges are kept.
-pub record Kept (v : List ℤ) (i : ℕ) : Type 0 where
-  pub within : 2 * i ≤ length v
-  pub on : kept 0 (ranges_of v) ≡ kept (low v i) (ranges_of (drop (2 * i) v))
-
-kept_next : (v : List ℤ) (i : ℕ) → Kept v i → 2 * i + 2 ≤ length v
-    → kept 0 (ranges_of v) ≡ (in_row v i && kept (low v (i + 1)) (ranges_of (drop (2 * (i + 1)) v)))
-kept_next v i a h = a.on ∙ ap (kept (low v i)) (ranges_next v i h) ∙ rw (add-one i) refl
-
-pub kept-none : {v : List ℤ} → Kept v 0
-kept-none = record { within = omega arith; on = refl }
-
-pub kept_more : {v : List ℤ} {i : ℕ} → Kept v i → 2 * i + 2 ≤ length v → in_row v i ≡ true → Kept v (i + 1)
-kept_more {v} {i} a h e = record { within = omega arith; on = kept_next v i a h ∙ rw e refl }
-
-pub kept-not : {v : List ℤ} {i : ℕ} → Kept v i → 2 * i + 2 ≤ length v → in_row v i ≡ false → false ≡ kept 0 (ranges_of v)
-kept-not {v} {i} a h e = sym (kept_next v i a h ∙ rw e refl)
-
 -- "an odd last word isn't read"
 no_range : (l : List ℤ) → length l < 2 → ranges_of l ≡ []
 no_range [] h = refl
 no_range (a ∷ []) h = refl
 no_range (a ∷ b ∷ l) h = absurd (omega arith)
 
-pub kept_whole : {v : List ℤ} {i : ℕ} → Kept v i → length v < 2 * i + 2 → true ≡ kept 0 (ranges_of v)
-kept_whole {v} {i} a h = sym (a.on ∙ ap (kept (low v i)) (no_range (drop (2 * i) v) (omega (arith, length-drop (2 * i) v))))
+-- the ranges from i on, tested one after the other
+kept_from : (v : List ℤ) (k i : ℕ) → i + k ≡ length v / 2 → list_all (in_row v) (range_with_len i k) ≡ kept (low v i) (ranges_of (drop (2 * i) v))
+kept_from v zero i h = sym (ap (kept (low v i)) (no_range (drop (2 * i) v) (omega (arith, length-drop (2 * i) v))))
+kept_from v (suc k) i h =
+    ap (λ (b : Bool). in_row v i && b) (kept_from v k (i + 1) (omega arith))
+    ∙ sym (ap (kept (low v i)) (ranges_next v i (omega arith)) ∙ rw (add-one i) refl)
+
+pub kept_all : (v : List ℤ) → list_all (in_row v) (range_with_len 0 (length v / 2)) ≡ kept 0 (ranges_of v)
+kept_all v = kept_from v (length v / 2) 0 (omega arith)
 
 -- ---- sets
 

@@ -1,22 +1,15 @@
--- A pass over n records: a test of each number below n, made one after the other.
-use Rattle.std.specs.Prelude.{◌≡◌, refl, Bool, true, false, ℕ, ◌+◌, ◌≤◌, ◌<◌}
-use Rattle.std.proofs.Common.{sym, arith}
+-- A pass over the records of a table: a test of each, made one after the other.
+use Rattle.std.specs.Prelude.{◌≡◌, List, Bool, ℕ, ◌+◌, ◌*◌, ℤ, pos, get_or}
+use Rattle.std.proofs.Common.{ap, ◌∙◌, arith}
+use Rattle.format.specs.Places.{na_state}
+use Rattle.format.specs.Tables.{row_at}
+use Rattle.format.specs.Writing.{cell}
+use Rattle.rewriting.specs.All.{all_same}
+use Rattle.rewriting.specs.Held.{row_word}
 use Rattle.rewriting.specs.Passes.{all}
-use Rattle.rewriting.specs.All.{all_more, all_fails}
 
--- The first i of n have passed.
-pub record Pass (p : ℕ → Bool) (n i : ℕ) : Type 0 where
-  pub within : i ≤ n
-  pub good : all i p ≡ true
-
-pub pass_none : {p : ℕ → Bool} {n : ℕ} → Pass p n 0
-pass_none = record { within = omega arith; good = refl }
-
-pub pass_more : {p : ℕ → Bool} {n i : ℕ} → Pass p n i → i < n → p i ≡ true → Pass p n (i + 1)
-pass_more {p} {n} {i} a h e = record { within = omega arith; good = all_more p i a.good e }
-
-pub pass_not : {p : ℕ → Bool} {n i : ℕ} → Pass p n i → i < n → p i ≡ false → false ≡ all n p
-pass_not {p} {n} {i} a h e = sym (all_fails p n i h e)
-
-pub pass_whole : {p : ℕ → Bool} {n i : ℕ} → Pass p n i → n ≤ i → true ≡ all n p
-pass_whole {p} {n} {i} a h = let e : i ≡ n = omega arith in sym (rw e at a.good)
+-- records of one word
+pub all_words : (p : ℤ → Bool) (n : ℕ) (t : List ℤ) → all n (λ i. p (cell (row_at 1 t i) na_state)) ≡ all n (λ i. p (get_or t i (pos 0)))
+all_words p n t =
+    all_same n (λ i. p (cell (row_at 1 t i) na_state)) (λ i. p (get_or t i (pos 0)))
+    (λ i h. let e : 1 * i + 0 ≡ i = omega arith in ap p (row_word 1 t i na_state (omega arith) ∙ ap (λ (k : ℕ). get_or t k (pos 0)) e))

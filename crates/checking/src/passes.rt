@@ -1,96 +1,58 @@
 // Document 02, R-1, refusal 15: one pass over a lent table, whether all of its records are fine. What follows a table's last record is not
 // looked at.
 
-ghost use Rattle.std.specs.Prelude.{◌≡◌, ◌*◌, ◌≤◌, length};
+ghost use Rattle.std.specs.Prelude.{◌≡◌};
 ghost use Rattle.rewriting.specs.Passes.{states_fine, edges_fine, arguments_fine, starts_fine, names_fine, actions_fine};
 
 use crate::{records, signs};
-use format::{action, edge, rule, state};
+use format::{name, rule};
+use tables::rows::Rows;
 
-pub fn states_fine(states: &[i32], n: usize) -> bool
-    requires { 8 * n ≤ length states.now }
-    ensures { result ≡ states_fine n states.now }
+pub fn states_fine(states: &Rows<8>) -> bool
+    ensures { result ≡ states_fine states.now.count states.now.words.now }
 {
-    let mut i = 0;
-    while i < n {
-        if !records::state_fine(tables::row(states, state::WIDTH, i)) {
-            return false;
-        }
-        i += 1;
-    }
-    true
+    states.counted().iter().all(records::state_fine)
 }
 
-// m edges, of n states.
-pub fn edges_fine(edges: &[i32], m: usize, n: usize) -> bool
-    requires { 8 * m ≤ length edges.now }
-    ensures { result ≡ edges_fine n m edges.now }
+// n states are listed.
+pub fn edges_fine(edges: &Rows<8>, n: usize) -> bool
+    ensures { result ≡ edges_fine n edges.now.count edges.now.words.now }
 {
-    let mut i = 0;
-    while i < m {
-        if !records::edge_fine(tables::row(edges, edge::WIDTH, i), n) {
-            return false;
-        }
-        i += 1;
-    }
-    true
+    edges.counted().iter().all(|row| records::edge_fine(row, n))
 }
 
-// p, q and r of the first o edges; k sets are listed.
-pub fn all_arguments_fine(edges: &[i32], o: usize, k: usize) -> bool
-    requires { 8 * o ≤ length edges.now }
-    ensures { result ≡ arguments_fine k o edges.now }
+// p, q and r of each edge; k sets are listed.
+pub fn all_arguments_fine(edges: &Rows<8>, k: usize) -> bool
+    ensures { result ≡ arguments_fine k edges.now.count edges.now.words.now }
 {
-    let mut i = 0;
-    while i < o {
-        if !records::arguments_fine(tables::row(edges, edge::WIDTH, i), k) {
-            return false;
-        }
-        i += 1;
-    }
-    true
+    edges
+        .counted()
+        .iter()
+        .all(|row| records::arguments_fine(row, k))
 }
 
-// The start of each of k rules.
-pub fn starts_fine(rules: &[i32], k: usize) -> bool
-    requires { 3 * k ≤ length rules.now }
-    ensures { result ≡ starts_fine k rules.now }
+// The start of each rule.
+pub fn starts_fine(rules: &Rows<3>) -> bool
+    ensures { result ≡ starts_fine rules.now.count rules.now.words.now }
 {
-    let mut i = 0;
-    while i < k {
-        if !signs::natural(tables::row(rules, rule::WIDTH, i), rule::START) {
-            return false;
-        }
-        i += 1;
-    }
-    true
+    rules
+        .counted()
+        .iter()
+        .all(|row| signs::natural(row[rule::START]))
 }
 
 // Modes and decisions.
-pub fn names_fine(table: &[i32], n: usize) -> bool
-    requires { n ≤ length table.now }
-    ensures { result ≡ names_fine n table.now }
+pub fn names_fine(names: &Rows<1>) -> bool
+    ensures { result ≡ names_fine names.now.count names.now.words.now }
 {
-    let mut i = 0;
-    while i < n {
-        if !signs::natural(table, i) {
-            return false;
-        }
-        i += 1;
-    }
-    true
+    names
+        .counted()
+        .iter()
+        .all(|row| signs::natural(row[name::STATE]))
 }
 
-pub fn actions_fine(actions: &[i32], n: usize) -> bool
-    requires { 3 * n ≤ length actions.now }
-    ensures { result ≡ actions_fine n actions.now }
+pub fn actions_fine(actions: &Rows<3>) -> bool
+    ensures { result ≡ actions_fine actions.now.count actions.now.words.now }
 {
-    let mut i = 0;
-    while i < n {
-        if !records::action_fine(tables::row(actions, action::WIDTH, i)) {
-            return false;
-        }
-        i += 1;
-    }
-    true
+    actions.counted().iter().all(records::action_fine)
 }

@@ -1,81 +1,53 @@
-// What a word of a record is: not negative, "None", a certain number, or the number of a record; and how two words are ordered. This is the
-// only file of the crate that looks at a sign. A word is named by its place, so that no signed number passes through a caller.
+// What a word of a record is: not negative, "None", a certain number, or the number of a record.
 
-ghost use Rattle.std.specs.Prelude.{◌≡◌, ◌+◌, ◌<◌, leb, ltb, pos, length};
-ghost use Rattle.format.specs.Sets.{key};
+ghost use Rattle.std.specs.Prelude.{◌≡◌, pos};
 ghost use Rattle.format.specs.Sections.{same};
 ghost use Rattle.format.specs.Links.{names};
-ghost use Rattle.format.specs.Writing.{cell};
 ghost use Rattle.rewriting.specs.Formed as spec;
 
-use ordering::order;
-
 // Whether the word is not negative.
-pub fn natural(row: &[i32], k: usize) -> bool
-    requires { k < length row.now }
-    ensures { result ≡ spec.natural (cell row.now k) }
+pub fn natural(word: i32) -> bool
+    ensures { result ≡ spec.natural word }
 {
-    0 <= row[k]
+    0 <= word
 }
 
 // Whether the word is the number of one of n records.
-pub fn named(row: &[i32], k: usize, n: usize) -> bool
-    requires { k < length row.now }
-    ensures { result ≡ names n (cell row.now k) }
+pub fn named(word: i32, n: usize) -> bool
+    ensures { result ≡ names n word }
 {
-    natural(row, k) & (tables::size_at(row, k) < n)
+    usize::try_from(word).is_ok_and(|number| number < n)
 }
 
 // Whether the word is the number n.
-pub fn is_number(row: &[i32], k: usize, n: usize) -> bool
-    requires { k < length row.now }
-    ensures { result ≡ same (cell row.now k) (pos n) }
+pub fn is_number(word: i32, n: usize) -> bool
+    ensures { result ≡ same word (pos n) }
 {
-    natural(row, k) & (tables::size_at(row, k) == n)
+    usize::try_from(word) == Ok(n)
 }
 
 // ""None" is -1."
-pub fn absent(row: &[i32], k: usize) -> bool
-    requires { k < length row.now }
-    ensures { result ≡ spec.absent (cell row.now k) }
+pub fn absent(word: i32) -> bool
+    ensures { result ≡ spec.absent word }
 {
-    row[k] == -1
+    word == -1
 }
 
-pub fn or_absent(row: &[i32], k: usize) -> bool
-    requires { k < length row.now }
-    ensures { result ≡ spec.or_absent (cell row.now k) }
+pub fn or_absent(word: i32) -> bool
+    ensures { result ≡ spec.or_absent word }
 {
-    natural(row, k) | absent(row, k)
+    natural(word) | absent(word)
 }
 
-pub fn nought(row: &[i32], k: usize) -> bool
-    requires { k < length row.now }
-    ensures { result ≡ spec.nought (cell row.now k) }
+pub fn nought(word: i32) -> bool
+    ensures { result ≡ spec.nought word }
 {
-    is_number(row, k, 0)
+    word == 0
 }
 
 // 0 or 1.
-pub fn truth(row: &[i32], k: usize) -> bool
-    requires { k < length row.now }
-    ensures { result ≡ spec.truth (cell row.now k) }
+pub fn truth(word: i32) -> bool
+    ensures { result ≡ spec.truth word }
 {
-    nought(row, k) | is_number(row, k, 1)
-}
-
-// Whether word j is not above word k.
-pub fn at_most(row: &[i32], j: usize, k: usize) -> bool
-    requires { (j < length row.now) × (k < length row.now) }
-    ensures { result ≡ leb (key (cell row.now j)) (key (cell row.now k)) }
-{
-    order::at_most(row[j], row[k])
-}
-
-// Whether a range that stops at word j and one that starts at word k neither meet nor touch.
-pub fn apart(row: &[i32], j: usize, k: usize) -> bool
-    requires { (j < length row.now) × (k < length row.now) }
-    ensures { result ≡ ltb (key (cell row.now j) + 1) (key (cell row.now k)) }
-{
-    order::apart(row[j], row[k])
+    matches!(word, 0 | 1)
 }

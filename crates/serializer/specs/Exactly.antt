@@ -2,14 +2,12 @@
 use Rattle.std.specs.Prelude.{◌≡◌, List, [], Bool, true, false, ◌&&◌, ◌↔◌, ℕ, ◌+◌, ◌*◌, ◌≤◌, ◌<◌, ltb, leb, eqb, ℤ, pos, negsuc, length, get_or, replicate}
 use Rattle.std.proofs.Math.Path.{refl}
 use Rattle.std.proofs.Common.{sym, ap, ◌∙◌, subst, arith, leb-true, le-leb, lt-ltb, le-ltb, ltb-true, ltb-false, eqb-true, eq-eqb}
-use Rattle.format.specs.Reading.{bare, Table, States, Edges, Ranges, Sets, Rules, Modes, Decisions, Actions, Scratch, pick}
+use Rattle.format.specs.Reading.{Table, States, Edges, Ranges, Sets, Rules, Modes, Decisions, Actions, Scratch, pick}
 use Rattle.format.specs.Sections.{State, none, same, size, bit}
 use Rattle.format.specs.Links.{those, names, stop_of, tail}
 use Rattle.format.specs.Places.{st_kind, st_rule, st_flags, st_first, st_last, st_count, ed_kind, ed_source, ed_target, ed_next, ed_mark, ru_start, ru_stop, na_state}
-use Rattle.format.specs.Tables.{nine, row_at, zeros}
-use Rattle.format.specs.Writing.{writing, words_for, write, own, inside, cell, state_back, edge_back, rows_of, given, comes}
-use Rattle.format.specs.declared.Refusal.{Refusal}
-use Rattle.format.specs.declared.Written.TheVariants as W
+use Rattle.format.specs.Tables.{nine, row_at}
+use Rattle.format.specs.Writing.{Writing, words_for, write, unwritten, own, inside, cell, state_back, edge_back, rows_of, given, comes}
 use Rattle.laws.specs.Own.{same_true}
 use Rattle.writing.specs.Whole.{answer}
 use Rattle.inplace.specs.Rows.{word_of}
@@ -24,7 +22,7 @@ use Rattle.rewriting.specs.SetsInRow.{sets_exactly}
 use Rattle.rewriting.specs.Climbs.{sum, sum_of, sources, climb, climbs-same}
 use Rattle.rewriting.specs.Checks.{own_first, row, Joined, Checked}
 use Rattle.rewriting.specs.Held.{rows_take, inside-lie, rows_long, rows_at, Lie, lent_exactly}
-use Rattle.serializer.specs.Tests.{few_in, joined_in, marked_in, others_in, fine}
+use Rattle.serializer.specs.Tests.{few_in, joined_in, marked_in, linked_in, others_in, fine, listed_in, passed_in}
 use Rattle.wiring.specs.Given.{word_at_lem, rows-states, rows-edges, rows-rules, states_long, edges_long, state_is, edge_is, state_word_lem, edge_word, rule_word, edge-number}
 use Rattle.wiring.specs.Chains.{source_in, next_in, count_in, chain_fine, chains_fine}
 use Rattle.wiring.specs.Stops.{stops_fine, found_are}
@@ -335,6 +333,31 @@ module _ (tables : Table → List ℤ) (counts : Table → ℕ) (token : ℤ) wh
         sets = left s a (left (s && a) b (left (s && a && b) c (right (few_in counts && j) r p)));
       }
 
+-- ---- the tests as the code makes them: first whether the records are listed
+
+module _ (tables : Table → List ℤ) (counts : Table → ℕ) where
+  abbrev linking : Bool
+  linking = linked_in (counts States) (counts Edges) (counts Rules) (counts Sets) (tables States) (tables Edges) (tables Rules)
+
+  abbrev others : Bool
+  others = others_in (counts Ranges) (counts Sets) (counts Modes) (counts Decisions) (counts Actions) (tables Ranges) (tables Sets) (tables Modes) (tables Decisions) (tables Actions)
+
+  module _ (token : ℤ) where
+    pub unlisted : listed_in tables counts ≡ false → (inside tables counts && comes (given tables counts) token) ≡ false
+    unlisted h = go (inside tables counts) refl h
+      where
+        go : (b : Bool) → inside tables counts ≡ b → (b && few_in counts) ≡ false → (b && comes (given tables counts) token) ≡ false
+        go false e h = refl
+        go true e h = sym (passes_comes tables counts (inside-lie tables counts e) token) ∙ ap (λ (b : Bool). b && linking && others) h
+
+    pub listed_comes : listed_in tables counts ≡ true → passed_in tables counts ≡ (inside tables counts && comes (given tables counts) token)
+    listed_comes h =
+        let i = left (inside tables counts) (few_in counts) h in
+        let f = right (inside tables counts) (few_in counts) h in
+        sym (ap (λ (b : Bool). b && linking && others) f)
+        ∙ passes_comes tables counts (inside-lie tables counts i) token
+        ∙ sym (ap (λ (b : Bool). b && comes (given tables counts) token) i)
+
 -- ---- joined tables are linked
 
 module _ (n m k c : ℕ) (st ed ru : List ℤ) where
@@ -353,9 +376,9 @@ module _ (n m k c : ℕ) (st ed ru : List ℤ) where
 -- ---- the answer
 
 module _ (tables : Table → List ℤ) (counts : Table → ℕ) (token : ℤ) (m : ℕ) where
-  pub write-refused : (inside tables counts && comes (given tables counts) token) ≡ false → {q : Refusal} {l : List ℤ} → q ≡ bare 15 → l ≡ zeros m → writing (W.Refused q) l ≡ write tables counts token m
+  pub write-refused : (inside tables counts && comes (given tables counts) token) ≡ false → {a : Writing} → a ≡ unwritten 15 m → a ≡ write tables counts token m
   unfolding write
-  write-refused h p q = rw (h, p, q) refl
+  write-refused h e = e ∙ rw h refl
 
   pub write-answers : (inside tables counts && comes (given tables counts) token) ≡ true → {ws : List ℤ} → words_for tables counts token ≡ ws → answer ws m ≡ write tables counts token m
   unfolding write

@@ -1,7 +1,7 @@
 -- Refusal 15: all tests that the code makes, in its order, and what they come to (Exactly: `passes_comes`).
 use Rattle.std.specs.Prelude.{List, Bool, ◌&&◌, ℕ, leb, ℤ}
 use Rattle.format.specs.Reading.{Table, States, Edges, Ranges, Sets, Rules, Modes, Decisions, Actions}
-use Rattle.format.specs.Writing.{eight, given, inside, comes}
+use Rattle.format.specs.Writing.{eight, inside}
 use Rattle.rewriting.specs.Passes.{states_fine, edges_fine, arguments_fine, starts_fine, names_fine, actions_fine, sets_fine}
 use Rattle.wiring.specs.Chains.{chains_fine}
 use Rattle.wiring.specs.Stops.{stops_fine}
@@ -35,6 +35,12 @@ fine tables counts =
     few_in counts && linked_in (counts States) (counts Edges) (counts Rules) (counts Sets) (tables States) (tables Edges) (tables Rules)
     && others_in (counts Ranges) (counts Sets) (counts Modes) (counts Decisions) (counts Actions) (tables Ranges) (tables Sets) (tables Modes) (tables Decisions) (tables Actions)
 
--- Whether 15 is not given: no count exceeds its table's whole records, and some words decode to the records.
-abbrev pub writable_in : (Table → List ℤ) → (Table → ℕ) → ℤ → Bool
-writable_in tables counts token = inside tables counts && comes (given tables counts) token
+-- The tests of records that are listed: all but `few_in`.
+abbrev pub passed_in : (Table → List ℤ) → (Table → ℕ) → Bool
+passed_in tables counts =
+    linked_in (counts States) (counts Edges) (counts Rules) (counts Sets) (tables States) (tables Edges) (tables Rules)
+    && others_in (counts Ranges) (counts Sets) (counts Modes) (counts Decisions) (counts Actions) (tables Ranges) (tables Sets) (tables Modes) (tables Decisions) (tables Actions)
+
+-- No count exceeds its table's whole records, or the most that any room holds.
+abbrev pub listed_in : (Table → List ℤ) → (Table → ℕ) → Bool
+listed_in tables counts = inside tables counts && few_in counts

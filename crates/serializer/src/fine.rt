@@ -1,168 +1,27 @@
-// Document 02, R-1, refusal 15: "a count exceeds its table's whole records or no word list, in any room, decodes to these records".
+// Document 02, R-1, refusal 15: "no word list, in any room, decodes to these records".
 
-ghost use Rattle.std.specs.Prelude.{◌≡◌, [], ℤ};
-ghost use Rattle.format.specs.Tables.{nine};
-ghost use Rattle.format.specs.Writing.{inside};
-ghost use Rattle.rewriting.specs.Held.{Lie};
-ghost use Rattle.serializer.specs.Tests as spec;
+ghost use Rattle.std.specs.Prelude.{◌≡◌};
+ghost use Rattle.serializer.specs.Tests.{others_in, passed_in};
+ghost use Rattle.tables.specs.Records.{words_in, counts_in};
 
-use crate::{counts, linked, others};
-use format::{action, edge, name, range, rule, set, state};
+use crate::linked;
+use checking::{kept, passes};
+use tables::records::Records;
 
-// Whether no count exceeds its table's whole records.
-fn fit(
-    states: &[i32],
-    states_count: usize,
-    edges: &[i32],
-    edges_count: usize,
-    ranges: &[i32],
-    ranges_count: usize,
-    sets: &[i32],
-    sets_count: usize,
-    rules: &[i32],
-    rules_count: usize,
-    modes: &[i32],
-    modes_count: usize,
-    decisions: &[i32],
-    decisions_count: usize,
-    actions: &[i32],
-    actions_count: usize,
-) -> bool
-    ensures { result ≡ inside
-        (nine states.now edges.now ranges.now sets.now rules.now modes.now decisions.now actions.now [])
-        (nine states_count edges_count ranges_count sets_count rules_count modes_count decisions_count actions_count 0) }
+// The sets with their ranges, the modes, the decisions and the actions.
+fn others_fine(records: &Records) -> bool
+    ensures { result ≡ others_in records.now.ranges.count records.now.sets.count records.now.modes.count records.now.decisions.count records.now.actions.count
+        records.now.ranges.words.now records.now.sets.words.now records.now.modes.words.now records.now.decisions.words.now records.now.actions.words.now }
 {
-    counts::fits(states, state::WIDTH, states_count)
-        & counts::fits(edges, edge::WIDTH, edges_count)
-        & counts::fits(ranges, range::WIDTH, ranges_count)
-        & counts::fits(sets, set::WIDTH, sets_count)
-        & counts::fits(rules, rule::WIDTH, rules_count)
-        & counts::fits(modes, name::WIDTH, modes_count)
-        & counts::fits(decisions, name::WIDTH, decisions_count)
-        & counts::fits(actions, action::WIDTH, actions_count)
+    kept::sets_fine(&records.sets, &records.ranges)
+        && passes::names_fine(&records.modes)
+        && passes::names_fine(&records.decisions)
+        && passes::actions_fine(&records.actions)
 }
 
-// Whether the records pass all tests; they lie in their tables.
-fn fine(
-    states: &[i32],
-    states_count: usize,
-    edges: &[i32],
-    edges_count: usize,
-    ranges: &[i32],
-    ranges_count: usize,
-    sets: &[i32],
-    sets_count: usize,
-    rules: &[i32],
-    rules_count: usize,
-    modes: &[i32],
-    modes_count: usize,
-    decisions: &[i32],
-    decisions_count: usize,
-    actions: &[i32],
-    actions_count: usize,
-) -> bool
-    requires { Lie (nine states.now edges.now ranges.now sets.now rules.now modes.now decisions.now actions.now [])
-        (nine states_count edges_count ranges_count sets_count rules_count modes_count decisions_count actions_count 0) }
-    ensures { result ≡ spec.fine (nine states.now edges.now ranges.now sets.now rules.now modes.now decisions.now actions.now [])
-        (nine states_count edges_count ranges_count sets_count rules_count modes_count decisions_count actions_count 0) }
+// Whether the records pass all tests.
+pub fn fine(records: &Records) -> bool
+    ensures { result ≡ passed_in (words_in records.now) (counts_in records.now) }
 {
-    if !counts::few(
-        states_count,
-        edges_count,
-        ranges_count,
-        sets_count,
-        rules_count,
-        modes_count,
-        decisions_count,
-        actions_count,
-    ) {
-        return false;
-    }
-    if !linked::linked(
-        states,
-        states_count,
-        edges,
-        edges_count,
-        rules,
-        rules_count,
-        sets_count,
-    ) {
-        return false;
-    }
-    others::fine(
-        ranges,
-        ranges_count,
-        sets,
-        sets_count,
-        modes,
-        modes_count,
-        decisions,
-        decisions_count,
-        actions,
-        actions_count,
-    )
-}
-
-// Whether 15 is not given.
-pub fn writable(
-    states: &[i32],
-    states_count: usize,
-    edges: &[i32],
-    edges_count: usize,
-    ranges: &[i32],
-    ranges_count: usize,
-    sets: &[i32],
-    sets_count: usize,
-    rules: &[i32],
-    rules_count: usize,
-    modes: &[i32],
-    modes_count: usize,
-    decisions: &[i32],
-    decisions_count: usize,
-    actions: &[i32],
-    actions_count: usize,
-) -> bool
-    ensures { (token : ℤ) → result ≡ spec.writable_in
-        (nine states.now edges.now ranges.now sets.now rules.now modes.now decisions.now actions.now [])
-        (nine states_count edges_count ranges_count sets_count rules_count modes_count decisions_count actions_count 0) token }
-{
-    let inside = fit(
-        states,
-        states_count,
-        edges,
-        edges_count,
-        ranges,
-        ranges_count,
-        sets,
-        sets_count,
-        rules,
-        rules_count,
-        modes,
-        modes_count,
-        decisions,
-        decisions_count,
-        actions,
-        actions_count,
-    );
-    if !inside {
-        return false;
-    }
-    fine(
-        states,
-        states_count,
-        edges,
-        edges_count,
-        ranges,
-        ranges_count,
-        sets,
-        sets_count,
-        rules,
-        rules_count,
-        modes,
-        modes_count,
-        decisions,
-        decisions_count,
-        actions,
-        actions_count,
-    )
+    linked::linked(&records.net, records.sets.count) && others_fine(records)
 }

@@ -2,16 +2,24 @@
 
 #![tactic(auto)]
 
-ghost use Rattle.std.specs.Prelude.{[], length};
+ghost use Rattle.std.specs.Prelude.{◌≡◌, [], length};
 ghost use Rattle.format.specs.Tables.{nine};
-ghost use Rattle.format.specs.Writing.{Writes, writing};
+ghost use Rattle.format.specs.Writing.{Writes, writing, unwritten};
 
 use format::Written;
+use format::reason::Reason;
 
-mod counts;
 mod fine;
 mod linked;
-mod others;
+mod listed;
+
+// Refusal 15; every word of the output is 0.
+fn unwritable(out: &mut [i32]) -> Written
+    ensures { writing result out.new ≡ unwritten 15 (length out.old) }
+{
+    tables::clear(out);
+    Err(words::bare(Reason::Unwritable as u32))
+}
 
 // Whatever the tables, the counts and the output hold: the answer that is meant, and every word of the output.
 pub fn write(
@@ -38,7 +46,7 @@ pub fn write(
         (nine states.now edges.now ranges.now sets.now rules.now modes.now decisions.now actions.now [])
         (nine states_count edges_count ranges_count sets_count rules_count modes_count decisions_count actions_count 0) max_token_type (length out.old) (writing result out.new) }
 {
-    let writable = fine::writable(
+    let listed = listed::records(
         states,
         states_count,
         edges,
@@ -56,30 +64,13 @@ pub fn write(
         actions,
         actions_count,
     );
-    if !writable {
-        tables::clear(out);
-        return Written::Refused(words::bare(15));
+    let Some(records) = listed else {
+        return unwritable(out);
+    };
+    if !fine::fine(&records) {
+        return unwritable(out);
     }
-    let own = wiring::marks::own_count(edges, edges_count);
-    let n = writing::write_words(
-        states,
-        states_count,
-        edges,
-        own,
-        ranges,
-        ranges_count,
-        sets,
-        sets_count,
-        rules,
-        rules_count,
-        modes,
-        modes_count,
-        decisions,
-        decisions_count,
-        actions,
-        actions_count,
-        max_token_type,
-        out,
-    );
+    let own = wiring::marks::own_count(&records.net.edges);
+    let n = writing::write_words(&records, own, max_token_type, out);
     writing::finish(out, n)
 }

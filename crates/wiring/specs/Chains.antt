@@ -1,16 +1,13 @@
 -- Chains, by the words of the tables: st the states', ed the edges'.
 use Rattle.std.specs.Prelude.{◌≡◌, List, Bool, true, false, ◌&&◌, eqb, leb, ltb, ℤ, pos, negsuc}
 use Rattle.std.proofs.Math.Path.{refl}
-use Rattle.std.proofs.Common.{sym, ap, ltb-true}
+use Rattle.std.proofs.Common.{sym, ltb-true}
 use Prim.Native.Nat.{ℕ, zero, suc, ◌+◌, ◌-◌, ◌*◌, ◌≤◌, ◌<◌}
 use native.Mathlib.Omega.{arith}
 use Rattle.format.specs.Sections.{none, same, size}
 use Rattle.format.specs.Places.{st_first, st_last, st_count, ed_source, ed_next}
 use Rattle.inplace.specs.Rows.{word_of}
 use Rattle.tables.specs.Words.{number_of, number_word, number_at}
-use Rattle.words.specs.Signs.{sign_of}
-use Rattle.words.specs.declared.Sign.TheVariants.{Natural, Negative}
-use Rattle.rewriting.specs.Formed.{natural}
 use Rattle.rewriting.specs.Tests.{left, right}
 use Rattle.rewriting.specs.Passes.{all}
 use Rattle.rewriting.specs.Climbs.{sum, climbs, climb}
@@ -59,13 +56,3 @@ module _ (m : ℕ) (src : ℕ → ℕ) (nxt : ℕ → ℤ) (s : ℕ) (end : ℤ)
   unfolding climbs
   climbs_end zero low e before l = refl
   climbs_end (suc k) low e before l = absurd (omega arith)
-
--- ---- a state's count
-
-pub counted : (v : ℤ) (f : ℕ → Bool) {k : ℕ} → sign_of v ≡ Natural k → f k ≡ (natural v && f (size v))
-counted (pos n) f {k} e = let q : k ≡ n = cc in ap f q
-counted (negsuc n) f e = absurd (let z : ◌≡◌ {A = ℕ} 0 1 = cc in omega arith)
-
-pub uncounted : (v : ℤ) (b : Bool) → sign_of v ≡ Negative → false ≡ (natural v && b)
-uncounted (pos n) b e = absurd (let z : ◌≡◌ {A = ℕ} 0 1 = cc in omega arith)
-uncounted (negsuc n) b e = refl

@@ -1,12 +1,11 @@
 -- Marks and precedence decisions of joined tables: the tests say that they are as document 01 has them.
-use Rattle.std.specs.Prelude.{◌≡◌, refl, List, [], ◌∷◌, Bool, true, false, ◌↔◌, ℕ, zero, suc, ◌+◌, ◌-◌, ◌*◌, ◌^◌, ◌≤◌, ◌<◌, ltb, leb, eqb, ℤ, pos, negsuc, length}
-use Rattle.std.proofs.Common.{sym, ap, ◌∙◌, subst, ⊎_elim, arith, ltb-true, eqb-true, eq-eqb}
+use Rattle.std.specs.Prelude.{◌≡◌, refl, List, [], ◌∷◌, Bool, true, false, ◌↔◌, ℕ, zero, suc, ◌+◌, ◌*◌, ◌^◌, ◌≤◌, ◌<◌, ltb, leb, eqb, ℤ, pos, negsuc, length}
+use Rattle.std.proofs.Common.{sym, ap, ◌∙◌, subst, arith, ltb-true, eqb-true, eq-eqb}
 use Rattle.format.specs.Reading.{Table, States, Edges, Rules, pick}
 use Rattle.format.specs.Sections.{Edge, among, bit, size}
 use Rattle.format.specs.Links.{numbers, names, decides, tail}
 use Rattle.format.specs.Places.{st_flags, ed_mark}
 use Rattle.format.specs.Writing.{flag2, edge_back, given}
-use Rattle.laws.specs.Order.{order}
 use Rattle.tables.specs.Words.{number_of, number_word, number_at}
 use Rattle.inplace.specs.Links.{decides_at}
 use Rattle.atn.specs.Records.{edge_at, states_are, edges_are}
@@ -16,7 +15,7 @@ use Rattle.rewriting.specs.Fine.{states_in, edges_in, rules_in, rules_of, at}
 use Rattle.rewriting.specs.Checks.{row, flag4, eights, Joined, state-tests}
 use Rattle.rewriting.specs.Held.{Lie}
 use Rattle.wiring.specs.Given.{rows-states, rules_long, edge_is, state_word_lem, edge_word}
-use Rattle.wiring.specs.Marks.{mark_in, own_from, own_count, own_here, own_on, own_end, mark_for, marks_fine}
+use Rattle.wiring.specs.Marks.{mark_in, own_from, own_count, own_to, mark_for, marks_fine}
 use Rattle.wiring.specs.Decisions.{decision_fine, decisions_fine}
 use Rattle.wiring.specs.Linked.{held}
 use Rattle.wiring.specs.Joined.{decides_at_lem}
@@ -36,17 +35,8 @@ pub own_few : (m : ℕ) (ed : List ℤ) → own_count m ed ≤ m
 own_few m ed = omega (arith, own-most ed 0 m)
 
 module _ (m : ℕ) (ed : List ℤ) (o : ℕ) (within : o ≤ m) (mine : (i : ℕ) → i < o → mark_in ed i ≡ 1 → ⊥) (theirs : (i : ℕ) → o ≤ i → i < m → mark_in ed i ≡ 1) where
-  own_from_lem : (i left : ℕ) → i + left ≡ m → i ≤ o → own_from ed i left ≡ o
-  own_from_lem i zero e h = own_end ed i zero (omega arith) ∙ omega (arith, within)
-  own_from_lem i (suc left) e h =
-      let one : suc left - 1 ≡ left = omega arith in
-      ⊎_elim
-      (λ (k : o ≤ i). own_here ed i (suc left) (omega arith) (theirs i k (omega arith)) ∙ omega arith)
-      (λ k. own_on ed i (suc left) (omega arith) (mine i k) ∙ ap (own_from ed (i + 1)) one ∙ own_from_lem (i + 1) left (omega arith) (omega arith))
-      (order o i)
-
   pub own_is : own_count m ed ≡ o
-  own_is = own_from_lem 0 m (omega arith) (omega arith)
+  own_is = own_to ed 0 m o (omega arith) (omega (arith, within)) mine (λ h. theirs o (omega arith) (omega arith))
 
 -- ---- marks
 

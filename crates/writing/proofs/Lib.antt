@@ -1,4 +1,5 @@
 -- Lemmas of the functions' proofs.
 mod Rows
+mod Words
 mod Flags
 mod Cuts

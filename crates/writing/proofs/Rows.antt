@@ -7,12 +7,12 @@ use native.Mathlib.Nat.{mul-suc, mul-le-mul_left}
 use native.Mathlib.Numerals.{add-one}
 use native.Mathlib.Omega.{arith}
 use lib.IntN.{ℤ, pos}
-use lib.ListN.{length, drop, length-take, length-drop, length-map}
+use lib.ListN.{length, get_or, drop, length-take, length-drop, length-map}
 use Rattle.format.specs.Links.{numbers, numbers_from, each}
 use Rattle.format.specs.Tables.{row_at, state_word}
 use Rattle.format.specs.Writing.{counted, rows_of}
 use Rattle.laws.specs.Lists.{each_append, numbers-append}
-use Rattle.rewriting.specs.Held.{rows_long, rows_more, each_map}
+use Rattle.rewriting.specs.Held.{rows_at, rows_long, rows_more, each_map}
 use Rattle.writing.specs.Laid.{Lays, lays_none, lays_more, lays_then, lays_before}
 
 pub back_long : {A : Type 0} (g : List ℤ → A) (w n : ℕ) (t : List ℤ) → length (map g (rows_of w n t)) ≡ n
@@ -20,6 +20,13 @@ back_long g w n t = length-map (rows_of w n t) g ∙ rows_long w n t
 
 pub each-one : {A B : Type 0} (f : A → List B) (l : List A) (a : A) → each f (l ++ (a ∷ [])) ≡ each f l ++ f a
 each-one f l a = each_append f l (a ∷ []) ∙ ap (λ m. each f l ++ m) (append-nil (f a))
+
+-- record i of those that a table hands out
+pub handed : {rows : List (List ℤ)} (w n i : ℕ) (t : List ℤ) → rows ≡ rows_of w n t → i < n → get_or rows i [] ≡ row_at w t i
+handed w n i t e h = ap (λ (l : List (List ℤ)). get_or l i []) e ∙ rows_at w n t i h
+
+pub handed_long : {rows : List (List ℤ)} (w n : ℕ) (t : List ℤ) → rows ≡ rows_of w n t → length rows ≡ n
+handed_long w n t e = ap length e ∙ rows_long w n t
 
 -- ---- a loop: of n records of w words the words F of the first i were laid, `most` for each at most
 

@@ -1,13 +1,9 @@
 -- What the parts take and write: records of a table, the two forms of an edge, a state's flag, and the ranges of sets.
-use Rattle.std.specs.Prelude.{List, [], ◌∷◌, map, Bool, ◌&&◌, ℕ, ◌+◌, ◌*◌, ◌/◌, ◌%◌, ◌≤◌, ltb, eqb, ℤ, pos, length}
+use Rattle.std.specs.Prelude.{List, [], ◌∷◌, map, Bool, ◌&&◌, ℕ, ◌+◌, ◌/◌, ◌%◌, ltb, eqb, ℤ, pos}
 use Rattle.format.specs.Sets.{Range}
 use Rattle.format.specs.Sections.{Edge}
 use Rattle.format.specs.Places.{st_flags, se_count}
 use Rattle.format.specs.Writing.{cell_size, range_back, cuts, rows_of}
-
--- The n records of w words are in the table, and are no more than any room.
-abbrev pub Few : ℕ → ℕ → List ℤ → Type 0
-Few w n t = (w * n ≤ length t) × (n ≤ 65536)
 
 -- ---- format's `edge_form`: at type 3, and at any other
 

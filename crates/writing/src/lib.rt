@@ -3,28 +3,23 @@
 #![tactic(auto)]
 
 mod counted;
+mod flagged;
 mod putting;
 mod records;
 mod set_words;
 
 ghost use Rattle.std.specs.Prelude.{◌≡◌, List, [], ◌∷◌, ℕ, ◌≤◌, ◌^◌, ℤ, pos, length};
-ghost use Rattle.format.specs.Tables.{nine};
 ghost use Rattle.format.specs.Writing.{rows_of, words_of, writing};
+ghost use Rattle.tables.specs.Records.{words_in, counts_with};
 ghost use Rattle.writing.specs.Laid.{Lays};
-ghost use Rattle.writing.specs.Parts.{Few, in_sets};
+ghost use Rattle.writing.specs.Parts.{in_sets};
 ghost use Rattle.writing.specs.Whole.{read_off, answer};
 
+use crate::records::{Actions, Edges, Names, Rules, States};
 use format::Written;
-
-// The sections whose records are written one by one; a name is a mode's or a decision's. "derived edges not written": the first are all the others.
-#[derive(Clone, Copy)]
-pub enum Section {
-    States,
-    Rules,
-    Names,
-    Edges,
-    Actions,
-}
+use format::reason::Reason;
+use tables::records::Records;
+use tables::rows::Rows;
 
 // Version 4, a lexer, and the max token type.
 fn write_header(token: i32, out: &mut [i32]) -> usize
@@ -35,44 +30,27 @@ fn write_header(token: i32, out: &mut [i32]) -> usize
     putting::put(out, at, token)
 }
 
-// All words, from the output's start on, as far as it goes: the first o edges are those that are not derived. Answers how many they are.
-pub fn write_words(
-    states: &[i32],
-    n: usize,
-    edges: &[i32],
-    o: usize,
-    ranges: &[i32],
-    ra: usize,
-    sets: &[i32],
-    se: usize,
-    rules: &[i32],
-    ru: usize,
-    modes: &[i32],
-    mo: usize,
-    decisions: &[i32],
-    de: usize,
-    actions: &[i32],
-    ac: usize,
-    token: i32,
-    out: &mut [i32],
-) -> usize
-    requires { Few 8 n states.now × Few 8 o edges.now × Few 2 ra ranges.now × Few 2 se sets.now × Few 3 ru rules.now
-        × Few 1 mo modes.now × Few 1 de decisions.now × Few 3 ac actions.now × (in_sets (rows_of 2 se sets.now) ≤ ra) }
-    ensures { Lays (2 ^ 40) 0 (words_of (read_off
-        (nine states.now edges.now ranges.now sets.now rules.now
-        modes.now decisions.now actions.now []) (nine n o ra se ru mo de ac 0) token))
-        out.old out.new result }
+// All words, from the output's start on, as far as it goes: the first `own` edges are those that are not derived. Answers how many they are.
+pub fn write_words(records: &Records, own: usize, token: i32, out: &mut [i32]) -> usize
+    requires within { own ≤ records.now.net.edges.count }
+    requires in_a_row { in_sets (rows_of 2 records.now.sets.count records.now.sets.words.now) ≤ records.now.ranges.count }
+    ensures { Lays (2 ^ 40) 0 (words_of (read_off (words_in records.now) (counts_with own records.now) token)) out.old out.new result }
 {
+    let net = &records.net;
+    let edges = Rows {
+        words: net.edges.words,
+        count: own,
+    };
     let states_at = write_header(token, out);
-    let ones_at = counted::write_records(Section::States, states, n, out, states_at);
-    let twos_at = counted::write_flagged(states, n, 1, out, ones_at);
-    let rules_at = counted::write_flagged(states, n, 2, out, twos_at);
-    let modes_at = counted::write_records(Section::Rules, rules, ru, out, rules_at);
-    let sets_at = counted::write_records(Section::Names, modes, mo, out, modes_at);
-    let edges_at = set_words::write_sets(sets, se, ranges, ra, out, sets_at);
-    let decisions_at = counted::write_records(Section::Edges, edges, o, out, edges_at);
-    let actions_at = counted::write_records(Section::Names, decisions, de, out, decisions_at);
-    counted::write_records(Section::Actions, actions, ac, out, actions_at)
+    let ones_at = counted::write_records::<States, 8>(&net.states, out, states_at);
+    let twos_at = counted::write_flagged(&net.states, 1, out, ones_at);
+    let rules_at = counted::write_flagged(&net.states, 2, out, twos_at);
+    let modes_at = counted::write_records::<Rules, 3>(&net.rules, out, rules_at);
+    let sets_at = counted::write_records::<Names, 1>(&records.modes, out, modes_at);
+    let edges_at = set_words::write_sets(&records.sets, &records.ranges, out, sets_at);
+    let decisions_at = counted::write_records::<Edges, 8>(&edges, out, edges_at);
+    let actions_at = counted::write_records::<Names, 1>(&records.decisions, out, decisions_at);
+    counted::write_records::<Actions, 3>(&records.actions, out, actions_at)
 }
 
 // The answer once the n words are put: "16 exactly when the output is too short", which is then all zero; else the output behind them is.
@@ -82,8 +60,8 @@ pub fn finish(out: &mut [i32], n: usize) -> Written
 {
     if out.len() < n {
         tables::clear(out);
-        return Written::Refused(words::bare(16));
+        return Err(words::bare(Reason::ShortOutput as u32));
     }
     tables::clear(&mut out[n..]);
-    Written::Wrote(n)
+    Ok(n)
 }

@@ -1,129 +1,129 @@
 // The words of one record (document 01, "Reading order and fields"; document 02, R-1, "One fixed form").
 // A local is the place of the word that it is named after.
 
-ghost use Rattle.std.specs.Prelude.{◌≡◌, [], ◌∷◌, ◌≤◌, ◌<◌, ◌^◌, length};
-ghost use Rattle.format.specs.Links.{numbers_from, each};
+ghost use Rattle.std.specs.Prelude.{◌≡◌, [], ◌∷◌, ◌<◌, ◌^◌};
 ghost use Rattle.format.specs.Tables.{state_word, range_words, action_words};
-ghost use Rattle.format.specs.Writing.{state_form, rule_form, edge_form, state_back, rule_back, edge_back, range_back, action_back, link};
+ghost use Rattle.format.specs.Writing.{state_form, rule_form, edge_form, state_back, state_named, rule_back, edge_back, range_back, action_back, link};
 ghost use Rattle.writing.specs.Laid.{Lays};
-ghost use Rattle.writing.specs.Parts.{call_form, plain_form, has_flag};
+ghost use Rattle.writing.specs.Parts.{call_form, plain_form};
 
+use crate::counted::Record;
 use crate::putting;
-use format::{action, edge, range, rule, state};
+use format::kinds::{EdgeKind, StateKind};
+use format::{action, edge, name, range, rule, state};
 
 // The word that may follow a state's rule: loop back after type 12, else block end.
-fn write_link(row: &[i32], out: &mut [i32], at: usize) -> usize
-    requires { (8 ≤ length row.now) × (at < 2 ^ 56) }
+fn write_link(row: &[i32; state::WIDTH], out: &mut [i32], at: usize) -> usize
+    requires { at < 2 ^ 56 }
     ensures { Lays 1 at (link (state_back row.now) ∷ []) out.old out.new result }
 {
-    if tables::size_at(row, state::KIND) == 12 {
-        return putting::put_word(row, state::BACK, out, at);
+    if tables::size_at(row, state::KIND) == StateKind::LoopEnd as usize {
+        return putting::put(out, at, row[state::BACK]);
     }
-    putting::put_word(row, state::END, out, at)
+    putting::put(out, at, row[state::END])
 }
 
 // A state: its type, and so many words as follow that.
-pub fn write_state(row: &[i32], out: &mut [i32], at: usize) -> usize
-    requires { (8 ≤ length row.now) × (at < 2 ^ 50) }
-    ensures { Lays 3 at (state_form (state_back row.now)) out.old out.new result }
-{
-    let follow = format::words_after(tables::size_at(row, state::KIND));
-    let rule = putting::put_size(row, state::KIND, out, at);
-    if follow == 0 {
-        return rule;
-    }
-    let link = putting::put_word(row, state::RULE, out, rule);
-    if follow == 1 {
-        return link;
-    }
-    write_link(row, out, link)
-}
+pub struct States;
 
-// Whether a state has the flag.
-fn flagged(row: &[i32], flag: usize) -> bool
-    requires { (8 ≤ length row.now) × (0 < flag) }
-    ensures { result ≡ has_flag flag row.now }
-{
-    let flags = tables::size_at(row, state::FLAGS);
-    if flags < 8 {
-        flags / flag % 2 == 1
-    } else {
-        false
-    }
-}
+impl Record<8> for States {
+    ghost form = { λ x. state_form (state_back x) };
 
-// A state's number s if it has the flag, else nothing.
-pub fn write_if_flagged(row: &[i32], flag: usize, s: usize, out: &mut [i32], at: usize) -> usize
-    requires { (8 ≤ length row.now) × (0 < flag) × (s < 65536) × (at < 2 ^ 50) }
-    ensures { Lays 1 at (each state_word (numbers_from s (has_flag flag) (row.now ∷ []))) out.old out.new result }
-{
-    if flagged(row, flag) {
-        return putting::put_number(out, at, s);
+    fn write(row: &[i32; state::WIDTH], out: &mut [i32], at: usize) -> usize {
+        let follow = format::words_after(tables::size_at(row, state::KIND));
+        let rule = putting::put_size(out, at, row[state::KIND]);
+        if follow == 0 {
+            return rule;
+        }
+        let link = putting::put(out, rule, row[state::RULE]);
+        if follow == 1 {
+            return link;
+        }
+        write_link(row, out, link)
     }
-    at
 }
 
 // A rule: its start and its token type.
-pub fn write_rule(row: &[i32], out: &mut [i32], at: usize) -> usize
-    requires { (3 ≤ length row.now) × (at < 2 ^ 50) }
-    ensures { Lays 2 at (rule_form (rule_back row.now)) out.old out.new result }
-{
-    let token = putting::put_size(row, rule::START, out, at);
-    putting::put_word(row, rule::TOKEN, out, token)
+pub struct Rules;
+
+impl Record<3> for Rules {
+    ghost form = { λ x. rule_form (rule_back x) };
+
+    fn write(row: &[i32; rule::WIDTH], out: &mut [i32], at: usize) -> usize {
+        let token = putting::put_size(out, at, row[rule::START]);
+        putting::put(out, token, row[rule::TOKEN])
+    }
 }
 
 // A range: its start and its stop.
-pub fn write_range(row: &[i32], out: &mut [i32], at: usize) -> usize
-    requires { (2 ≤ length row.now) × (at < 2 ^ 50) }
+pub fn write_range(row: &[i32; range::WIDTH], out: &mut [i32], at: usize) -> usize
+    requires { at < 2 ^ 50 }
     ensures { Lays 2 at (range_words (range_back row.now)) out.old out.new result }
 {
-    let stop = putting::put_word(row, range::START, out, at);
-    putting::put_word(row, range::STOP, out, stop)
+    let stop = putting::put(out, at, row[range::START]);
+    putting::put(out, stop, row[range::STOP])
 }
 
 // An action: its type and its two words.
-pub fn write_action(row: &[i32], out: &mut [i32], at: usize) -> usize
-    requires { (3 ≤ length row.now) × (at < 2 ^ 50) }
-    ensures { Lays 3 at (action_words (action_back row.now)) out.old out.new result }
-{
-    let d1 = putting::put_size(row, action::KIND, out, at);
-    let d2 = putting::put_word(row, action::D1, out, d1);
-    putting::put_word(row, action::D2, out, d2)
+pub struct Actions;
+
+impl Record<3> for Actions {
+    ghost form = { λ x. action_words (action_back x) };
+
+    fn write(row: &[i32; action::WIDTH], out: &mut [i32], at: usize) -> usize {
+        let d1 = putting::put_size(out, at, row[action::KIND]);
+        let d2 = putting::put(out, d1, row[action::D1]);
+        putting::put(out, d2, row[action::D2])
+    }
 }
 
 // A rule edge: its source, its follow state, its type, its target, p and r.
-fn write_call(row: &[i32], out: &mut [i32], at: usize) -> usize
-    requires { (8 ≤ length row.now) × (at < 2 ^ 56) }
+fn write_call(row: &[i32; edge::WIDTH], out: &mut [i32], at: usize) -> usize
+    requires { at < 2 ^ 56 }
     ensures { Lays 6 at (call_form (edge_back row.now)) out.old out.new result }
 {
-    let follow = putting::put_size(row, edge::SOURCE, out, at);
-    let kind = putting::put_word(row, edge::Q, out, follow);
-    let target = putting::put_size(row, edge::KIND, out, kind);
-    let p = putting::put_size(row, edge::TARGET, out, target);
-    let r = putting::put_word(row, edge::P, out, p);
-    putting::put_word(row, edge::R, out, r)
+    let follow = putting::put_size(out, at, row[edge::SOURCE]);
+    let kind = putting::put(out, follow, row[edge::Q]);
+    let target = putting::put_size(out, kind, row[edge::KIND]);
+    let p = putting::put_size(out, target, row[edge::TARGET]);
+    let r = putting::put(out, p, row[edge::P]);
+    putting::put(out, r, row[edge::R])
 }
 
 // Any other edge: its source, its target, its type, p, q and r.
-fn write_plain(row: &[i32], out: &mut [i32], at: usize) -> usize
-    requires { (8 ≤ length row.now) × (at < 2 ^ 56) }
+fn write_plain(row: &[i32; edge::WIDTH], out: &mut [i32], at: usize) -> usize
+    requires { at < 2 ^ 56 }
     ensures { Lays 6 at (plain_form (edge_back row.now)) out.old out.new result }
 {
-    let target = putting::put_size(row, edge::SOURCE, out, at);
-    let kind = putting::put_size(row, edge::TARGET, out, target);
-    let p = putting::put_size(row, edge::KIND, out, kind);
-    let q = putting::put_word(row, edge::P, out, p);
-    let r = putting::put_word(row, edge::Q, out, q);
-    putting::put_word(row, edge::R, out, r)
+    let target = putting::put_size(out, at, row[edge::SOURCE]);
+    let kind = putting::put_size(out, target, row[edge::TARGET]);
+    let p = putting::put_size(out, kind, row[edge::KIND]);
+    let q = putting::put(out, p, row[edge::P]);
+    let r = putting::put(out, q, row[edge::Q]);
+    putting::put(out, r, row[edge::R])
 }
 
 // An edge.
-pub fn write_edge(row: &[i32], out: &mut [i32], at: usize) -> usize
-    requires { (8 ≤ length row.now) × (at < 2 ^ 50) }
-    ensures { Lays 6 at (edge_form (edge_back row.now)) out.old out.new result }
-{
-    if tables::size_at(row, edge::KIND) == 3 {
-        return write_call(row, out, at);
+pub struct Edges;
+
+impl Record<8> for Edges {
+    ghost form = { λ x. edge_form (edge_back x) };
+
+    fn write(row: &[i32; edge::WIDTH], out: &mut [i32], at: usize) -> usize {
+        if tables::size_at(row, edge::KIND) == EdgeKind::Rule as usize {
+            return write_call(row, out, at);
+        }
+        write_plain(row, out, at)
     }
-    write_plain(row, out, at)
+}
+
+// A mode or a decision: its state.
+pub struct Names;
+
+impl Record<1> for Names {
+    ghost form = { λ x. state_word (state_named x) };
+
+    fn write(row: &[i32; name::WIDTH], out: &mut [i32], at: usize) -> usize {
+        putting::put_size(out, at, row[name::STATE])
+    }
 }

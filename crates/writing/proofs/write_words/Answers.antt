@@ -25,7 +25,8 @@ sections r header states ones twos rules modes sets edges decisions actions =
 pub returns : goal.returns
 unfolding read_off
 returns c =
-    let rows = rows_of 8 c.args.n c.args.states.now in
+    let states = c.args.records.now.net.states in
+    let rows = rows_of 8 states.count states.words.now in
     lays_more (omega arith)
     (sections _ (rw (back32 c.args.token c.ranges.token.sfits) at c.write_header-states_at.ensures) (rw (counted_back state_form state_back) at c.write_records-ones_at.ensures)
     (rw (with-one rows) at c.write_flagged-twos_at.ensures) (rw (with_two rows) at c.write_flagged-rules_at.ensures)

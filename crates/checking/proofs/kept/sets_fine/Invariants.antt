@@ -1,10 +1,6 @@
--- `kept::sets_fine` meets its contract: the first i sets are fine, with `before` ranges in them. Assumes nothing.
-use Rattle.std.proofs.Common.{◌-◌}
+-- `kept::sets_fine` meets its contract: the first sets are fine, with `before` ranges in them. Assumes nothing.
 use Rattle.checking.specs.Kept.{Counted}
 use Rattle.checking.proofs.kept.sets_fine.Given as goal
 
-abbrev pub invariant-loop-i : goal.invariant-loop-i
-invariant-loop-i l = Counted l.m l.ranges l.k l.sets l.before l.i
-
-abbrev pub decreases-loop-i : goal.decreases-loop-i
-decreases-loop-i l = l.k - l.i
+abbrev pub invariant-loop-row : goal.invariant-loop-row
+invariant-loop-row l = Counted l.ranges.count l.ranges.words.now l.sets.count l.sets.words.now l.before l.row-index

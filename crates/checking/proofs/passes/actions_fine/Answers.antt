@@ -1,10 +1,10 @@
--- `passes::actions_fine` meets its contract: the first i actions are fine. Assumes nothing.
+-- `passes::actions_fine` meets its contract. Assumes nothing.
+use Rattle.std.proofs.Common.{rules}
 use Rattle.rewriting.specs.Passes.{action_fine}
-use Rattle.checking.specs.Pass.{pass_not}
-use Rattle.checking.proofs.Tested.{row-failed}
+use Rattle.checking.proofs.Passing.{all_pass}
 use Rattle.checking.proofs.passes.actions_fine.Goals as goal
 
-pub returns-then-not-action_fine : goal.returns-then-not-action_fine
-returns-then-not-action_fine c =
-    pass_not c.loop-i.invariant c.loop-i-test.true
-    (row-failed action_fine c.action_fine.ensures c.row.ensures c.if-not-action_fine.true)
+pub returns : goal.returns
+returns c =
+    let r = c.args.actions.now in
+    all_pass action_fine 3 r.count r.words.now c.all.ensures.ran (search rules) (λ x b q k. search rules)

@@ -1,16 +1,11 @@
--- `passes::all_arguments_fine` meets its contract: the arguments of the first i edges are fine. Assumes nothing.
+-- `passes::all_arguments_fine` meets its contract. Assumes nothing.
+use Rattle.std.proofs.Common.{rules}
 use Rattle.format.specs.Writing.{edge_back}
 use Rattle.rewriting.specs.Formed.{args_read}
-use Rattle.checking.specs.Pass.{pass_more, pass_not}
-use Rattle.checking.proofs.Tested.{row-failed, row-passed}
+use Rattle.checking.proofs.Passing.{all_pass}
 use Rattle.checking.proofs.passes.all_arguments_fine.Goals as goal
 
-pub returns-then-not-arguments_fine : goal.returns-then-not-arguments_fine
-returns-then-not-arguments_fine c =
-    pass_not c.loop-i.invariant c.loop-i-test.true
-    (row-failed (λ x. args_read c.args.k (edge_back x)) c.arguments_fine.ensures c.row.ensures c.if-not-arguments_fine.true)
-
-pub loop-i-preserved : goal.loop-i-preserved
-loop-i-preserved c =
-    pass_more c.loop-i.invariant c.loop-i-test.true
-    (row-passed (λ x. args_read c.args.k (edge_back x)) c.arguments_fine.ensures c.row.ensures c.if-not-arguments_fine.false)
+pub returns : goal.returns
+returns c =
+    let r = c.args.edges.now in
+    all_pass (λ x. args_read c.args.k (edge_back x)) 8 r.count r.words.now c.all.ensures.ran (search rules) (λ x b q k. search rules)

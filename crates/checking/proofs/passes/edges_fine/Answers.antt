@@ -1,10 +1,10 @@
--- `passes::edges_fine` meets its contract: the first i edges are fine. Assumes nothing.
+-- `passes::edges_fine` meets its contract. Assumes nothing.
+use Rattle.std.proofs.Common.{rules}
 use Rattle.rewriting.specs.Passes.{edge_fine}
-use Rattle.checking.specs.Pass.{pass_not}
-use Rattle.checking.proofs.Tested.{row-failed}
+use Rattle.checking.proofs.Passing.{all_pass}
 use Rattle.checking.proofs.passes.edges_fine.Goals as goal
 
-pub returns-then-not-edge_fine : goal.returns-then-not-edge_fine
-returns-then-not-edge_fine c =
-    pass_not c.loop-i.invariant c.loop-i-test.true
-    (row-failed (edge_fine c.args.n) c.edge_fine.ensures c.row.ensures c.if-not-edge_fine.true)
+pub returns : goal.returns
+returns c =
+    let r = c.args.edges.now in
+    all_pass (edge_fine c.args.n) 8 r.count r.words.now c.all.ensures.ran (search rules) (λ x b q k. search rules)

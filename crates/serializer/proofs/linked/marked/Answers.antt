@@ -4,6 +4,4 @@ use Rattle.wiring.specs.Marked.{own_few}
 use Rattle.serializer.proofs.linked.marked.Goals as goal
 
 pub returns_fine-requires : goal.returns_fine-requires
-returns_fine-requires c =
-    let p = c.requires.listed in
-    (p.0, p.1, p.2, omega (arith, c.own_count-own.ensures, own_few c.args.m c.args.edges.now))
+returns_fine-requires c = omega (arith, c.own_count-own.ensures, own_few c.args.net.now.edges.count c.args.net.now.edges.words.now)

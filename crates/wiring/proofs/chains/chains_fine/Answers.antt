@@ -6,6 +6,5 @@ use Rattle.wiring.proofs.chains.chains_fine.Goals as goal
 
 pub returns-then-not-chain_fine : goal.returns-then-not-chain_fine
 returns-then-not-chain_fine c =
-    let a = c.args in
-    let l = c.loop-s in
-    rw (all_fails (chain_fine a.m a.states.now a.edges.now) a.n l.s c.loop-s-test.true (sym c.chain_fine.ensures ∙ c.if-not-chain_fine.true)) refl
+    let net = c.args.net.now in
+    rw (all_fails (chain_fine net.edges.count net.states.words.now net.edges.words.now) net.states.count c.loop-s.s c.loop-s-test.true (sym c.chain_fine.ensures ∙ c.if-not-chain_fine.true)) refl

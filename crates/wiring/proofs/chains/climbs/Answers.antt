@@ -1,5 +1,5 @@
 -- `chains::climbs` meets its contract: what is left of the chain from the present edge gives what was asked from the first. Assumes nothing.
-use Rattle.std.proofs.Common.{rules, sym, ap, ◌∙◌, ◌&&◌, ◌+◌, ◌-◌, ◌*◌, arith, ℤ, pos, get_or, w32, to_z, of_z}
+use Rattle.std.proofs.Common.{rules, ◌≡◌, sym, ap, ◌∙◌, ◌&&◌, ◌+◌, ◌-◌, ◌*◌, ℕ, arith, ℤ, pos, get_or, w32, to_z, of_z}
 use Rattle.format.specs.Sections.{none, same}
 use Rattle.words.proofs.Signs.{back32}
 use Rattle.rewriting.specs.Climbs.{climbs}
@@ -9,23 +9,28 @@ use Rattle.wiring.proofs.chains.climbs.Goals as goal
 pub returns-then-not-stands : goal.returns-then-not-stands
 returns-then-not-stands c =
     let a = c.args in
-    let l = c.loop-left in
+    let net = a.net.now in
+    let l = c.loop in
     sym ((rw (back32 a.first c.ranges.first.sfits, back32 a.last c.ranges.last.sfits) at l.invariant)
-    ∙ climbs_off a.m (source_in a.edges.now) (next_in a.edges.now) a.s a.last c.requires.1 l.left l.low (to_z w32 l.next-bits) (to_z w32 l.before-bits) (omega (arith, c.loop-left-test.true)) c.number_of-j.ensures (sym c.stands.ensures ∙ c.if-not-stands.true))
+    ∙ climbs_off net.edges.count (source_in net.edges.words.now) (next_in net.edges.words.now) a.s a.last net.edges.few (a.count - l.counter) l.low (to_z w32 l.next-bits) (to_z w32 l.before-bits) (omega arith) c.number_of-j.ensures (sym c.stands.ensures ∙ c.if-not-stands.true))
 
-pub loop-left-preserved : goal.loop-left-preserved
-loop-left-preserved c =
+pub loop-preserved : goal.loop-preserved
+loop-preserved c =
     let a = c.args in
-    let l = c.loop-left in
+    let net = a.net.now in
+    let l = c.loop in
     let j = c.number_of-j.result in
+    let on : ℕ → ℤ → _ = λ left z. climbs net.edges.count (source_in net.edges.words.now) (next_in net.edges.words.now) a.s (to_z w32 (of_z w32 a.last)) left (j + 1) z (to_z w32 l.next-bits) in
+    let one : a.count - l.counter - 1 ≡ a.count - (l.counter + 1) = omega arith in
     l.invariant
-    ∙ climbs_on a.m (source_in a.edges.now) (next_in a.edges.now) a.s (to_z w32 (of_z w32 a.last)) c.requires.1 l.left l.low (to_z w32 l.next-bits) (to_z w32 l.before-bits) (omega (arith, c.loop-left-test.true)) c.number_of-j.ensures (sym c.stands.ensures ∙ c.if-not-stands.false)
-    ∙ ap (λ (z : ℤ). climbs a.m (source_in a.edges.now) (next_in a.edges.now) a.s (to_z w32 (of_z w32 a.last)) (l.left - 1) (j + 1) z (to_z w32 l.next-bits)) (sym (back32 (get_or a.edges.now (8 * j + 7) (pos 0)) (search rules)))
+    ∙ climbs_on net.edges.count (source_in net.edges.words.now) (next_in net.edges.words.now) a.s (to_z w32 (of_z w32 a.last)) net.edges.few (a.count - l.counter) l.low (to_z w32 l.next-bits) (to_z w32 l.before-bits) (omega arith) c.number_of-j.ensures (sym c.stands.ensures ∙ c.if-not-stands.false)
+    ∙ (λ i. on (one i) (sym (back32 (get_or net.edges.words.now (8 * j + 7) (pos 0)) (search rules)) i))
 
 pub returns : goal.returns
 returns c =
     let a = c.args in
-    let l = c.loop-left in
+    let net = a.net.now in
+    let l = c.loop in
     (c.ends.ensures ∙ ap (λ (z : ℤ). same (to_z w32 l.next-bits) none && same z (to_z w32 l.before-bits)) (back32 a.last c.ranges.last.sfits))
     ∙ sym ((rw (back32 a.first c.ranges.first.sfits, back32 a.last c.ranges.last.sfits) at l.invariant)
-    ∙ climbs_end a.m (source_in a.edges.now) (next_in a.edges.now) a.s a.last c.requires.1 l.left l.low (to_z w32 l.next-bits) (to_z w32 l.before-bits) (omega (arith, c.loop-left-test.false)))
+    ∙ climbs_end net.edges.count (source_in net.edges.words.now) (next_in net.edges.words.now) a.s a.last net.edges.few (a.count - l.counter) l.low (to_z w32 l.next-bits) (to_z w32 l.before-bits) (omega arith))

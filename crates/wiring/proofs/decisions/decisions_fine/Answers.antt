@@ -1,16 +1,14 @@
--- `decisions::decisions_fine` meets its contract: the states before pass the test. Assumes nothing.
-use Rattle.std.proofs.Common.{sym, ◌∙◌, arith}
-use Rattle.rewriting.specs.All.{all_more, all_fails}
+-- `decisions::decisions_fine` meets its contract. Assumes nothing.
+use Rattle.std.proofs.Common.{◌∙◌, rules, arith}
+use Rattle.std.proofs.lemmas.Iterator.{YieldsList-from_range}
+use Rattle.std.proofs.lemmas.Iterator.Search.{all_from_yields_List}
+use Rattle.rewriting.specs.All.{all_numbers}
 use Rattle.wiring.specs.Decisions.{decision_fine}
 use Rattle.wiring.proofs.decisions.decisions_fine.Goals as goal
 
-pub returns-then-not-decision_fine : goal.returns-then-not-decision_fine
-returns-then-not-decision_fine c =
-    let a = c.args in
-    sym (all_fails (decision_fine a.n a.m a.k a.states.now a.edges.now a.rules.now) a.n c.loop-s.s c.loop-s-test.true (sym c.decision_fine.ensures ∙ c.if-not-decision_fine.true))
-
-pub loop-s-preserved : goal.loop-s-preserved
-loop-s-preserved c =
-    let a = c.args in
-    let l = c.loop-s in
-    (all_more (decision_fine a.n a.m a.k a.states.now a.edges.now a.rules.now) l.s l.invariant.0 (sym c.decision_fine.ensures ∙ c.if-not-decision_fine.false), omega (arith, c.loop-s-test.true))
+pub returns : goal.returns
+returns c =
+    let net = c.args.net.now in
+    let fine = decision_fine net.states.count net.edges.count net.rules.count net.states.words.now net.edges.words.now net.rules.words.now in
+    all_from_yields_List fine _ _ _ c.all.ensures.ran (YieldsList-from_range 0 net.states.count net.states.count (cc) (omega arith)) (λ x b q k. search rules)
+    ∙ all_numbers fine net.states.count

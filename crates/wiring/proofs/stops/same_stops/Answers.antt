@@ -1,15 +1,16 @@
--- `stops::same_stops` meets its contract: the rules before have the stops that were found. Assumes nothing.
-use Rattle.std.proofs.Common.{◌≡◌, sym, ◌∙◌, rules}
+-- `stops::same_stops` meets its contract. Assumes nothing.
+use Rattle.std.proofs.Common.{◌∙◌, ℕ, rules, arith}
+use Rattle.std.proofs.lemmas.Iterator.{YieldsList-from_range}
+use Rattle.std.proofs.lemmas.Iterator.Search.{all_from_yields_List}
 use Rattle.format.specs.Places.{ru_stop}
+use Rattle.format.specs.Sections.{same}
 use Rattle.inplace.specs.Rows.{word_of}
-use Rattle.words.proofs.Signs.{back32}
-use Rattle.rewriting.specs.All.{all_fails}
-use Rattle.wiring.proofs.stops.same_stops.Invariants.{test}
+use Rattle.rewriting.specs.All.{all_numbers}
 use Rattle.wiring.proofs.stops.same_stops.Goals as goal
 
-pub returns-then-not-equal : goal.returns-then-not-equal
-returns-then-not-equal c =
+pub returns : goal.returns
+returns c =
     let a = c.args in
-    let l = c.loop-i in
-    let told : c.equal.result ≡ test a.rules.now a.found.now l.i = rw (back32 (word_of 3 a.rules.now l.i ru_stop) (search rules), back32 (word_of 3 a.found.now l.i ru_stop) (search rules)) at c.equal.ensures in
-    sym (all_fails (test a.rules.now a.found.now) a.k l.i c.loop-i-test.true (sym told ∙ c.if-not-equal.true))
+    let test = λ (R : ℕ). same (word_of 3 a.rules.now R ru_stop) (word_of 3 a.found.now R ru_stop) in
+    all_from_yields_List test _ _ _ c.all.ensures.ran (YieldsList-from_range 0 a.k a.k (cc) (omega arith)) (λ x b q k. search rules)
+    ∙ all_numbers test a.k
