@@ -1,16 +1,12 @@
 -- An answer's values, handed over in a lent list of words: values and zeros in its first 16, a shorter one gets what fits, the rest stays.
-use Rattle.std.specs.Prelude.{◌≡◌, refl, List, [], ◌∷◌, ◌++◌, ℕ, zero, suc, ◌+◌, ◌-◌, ◌≤◌, ◌<◌, ◌^◌, ℤ, pos, length, take, drop, set}
+use Rattle.std.specs.Prelude.{◌≡◌, refl, List, [], ◌∷◌, ◌++◌, ℕ, zero, suc, min, ◌+◌, ◌-◌, ◌≤◌, ◌<◌, ◌^◌, ℤ, pos, length, take, drop, set, Ok, Err}
 use Rattle.std.proofs.Common.{sym, ap, ◌∙◌, arith, add-one}
+use Rattle.std.proofs.lemmas.List.{length-take-le}
 use Rattle.format.specs.Tables.{zeros}
 use Rattle.format.specs.Answers.{Said}
 use Rattle.format.specs.declared.Counts.{Counts}
 use Rattle.format.specs.declared.Refusal.{Refusal}
-use Rattle.format.specs.declared.Decoded.{Decoded}
-use Rattle.format.specs.declared.Decoded.TheVariants as D
-use Rattle.format.specs.declared.SetPart.{SetPart}
-use Rattle.format.specs.declared.SetPart.TheVariants as P
-use Rattle.format.specs.declared.Written.{Written}
-use Rattle.format.specs.declared.Written.TheVariants as W
+use Rattle.format.specs.Results.{Decoded, SetPart, Written}
 
 -- The values, and zeros up to the 16th.
 abbrev pub padded16 : List ℤ → List ℤ
@@ -53,6 +49,26 @@ pub handed-laid : (vs a : List ℤ) → length vs ≤ 16 → handed vs a ≡ lai
 unfolding handed
 handed-laid vs a h = laid_is 16 vs a h
 
+-- the first are cleared, and then the values are put over them: g words are given, and c were cleared
+pub laid_over : (n g c : ℕ) (vs a : List ℤ) → length vs ≤ n → g ≡ min (length a) (length vs) → c ≡ min (length a) n → take g vs ++ drop g (zeros c ++ drop c a) ≡ laid n vs a
+laid_over zero zero zero [] a h x y = refl
+laid_over zero (suc g) c [] a h x y = absurd (omega arith)
+laid_over zero g (suc c) [] a h x y = absurd (omega arith)
+laid_over zero g c (v ∷ vs) a h x y = absurd (omega arith)
+laid_over (suc n) zero zero vs [] h x y = refl
+laid_over (suc n) (suc g) c vs [] h x y = absurd (omega arith)
+laid_over (suc n) g (suc c) vs [] h x y = absurd (omega arith)
+laid_over (suc n) g zero vs (w ∷ a) h x y = absurd (omega arith)
+laid_over (suc n) (suc g) c [] (w ∷ a) h x y = absurd (omega arith)
+laid_over (suc n) zero (suc c) [] (w ∷ a) h x y = ap (λ (l : List ℤ). pos 0 ∷ l) (laid_over n zero c [] a (omega arith) (omega arith) (omega arith))
+laid_over (suc n) zero c (v ∷ vs) (w ∷ a) h x y = absurd (omega arith)
+laid_over (suc n) (suc g) (suc c) (v ∷ vs) (w ∷ a) h x y = ap (λ (l : List ℤ). v ∷ l) (laid_over n g c vs a (omega arith) (omega arith) (omega arith))
+
+pub handed_over : (vs a : List ℤ) (g c : ℕ) → length vs ≤ 16 → g ≡ min (length a) (length vs) → c ≡ min (length a) 16 → take g vs ++ drop g (zeros (length (take c a)) ++ drop c a) ≡ handed vs a
+handed_over vs a g c h x y =
+    let e : length (take c a) ≡ c = length-take-le c a (omega arith) in
+    rw e (laid_over 16 g c vs a h x y) ∙ sym (handed-laid vs a h)
+
 -- one word more is cleared
 laid-suc : (n : ℕ) (a : List ℤ) → set (laid n [] a) n (pos 0) ≡ laid (suc n) [] a
 laid-suc zero [] = refl
@@ -82,8 +98,8 @@ handed-more vs a v h =
 -- ---- sizes that a signed word holds
 
 abbrev pub SmallPart : SetPart → Type 0
-SmallPart (P.Part a n) = (a < 2 ^ 63) × (n < 2 ^ 63)
-SmallPart (P.Denied d) = Unit {0}
+SmallPart (Ok (a, n)) = (a < 2 ^ 63) × (n < 2 ^ 63)
+SmallPart (Err d) = Unit {0}
 
 pub record SmallCounts (c : Counts) : Type 0 where
   pub words : c.words < 2 ^ 63
@@ -101,12 +117,12 @@ abbrev pub SmallRefusal : Refusal → Type 0
 SmallRefusal q = (q.place < 2 ^ 63) × (q.«record» < 2 ^ 63)
 
 abbrev pub Small : Decoded → Type 0
-Small (D.Accepted c) = SmallCounts c
-Small (D.Refused q) = SmallRefusal q
+Small (Ok c) = SmallCounts c
+Small (Err q) = SmallRefusal q
 
 abbrev pub SmallWritten : Written → Type 0
-SmallWritten (W.Wrote n) = n < 2 ^ 63
-SmallWritten (W.Refused q) = SmallRefusal q
+SmallWritten (Ok n) = n < 2 ^ 63
+SmallWritten (Err q) = SmallRefusal q
 
 -- a word that is not there
 pub set_beyond : (l : List ℤ) (i : ℕ) (v : ℤ) → length l ≤ i → l ≡ set l i v

@@ -9,7 +9,7 @@ use borrow.Author.Tests.{ltb-false}
 use Rattle.format.specs.Reading.{Table, pick}
 use Rattle.format.specs.Answers.{of_written}
 use Rattle.format.specs.Writing.{writing, given, inside, words_for, Writing, wrote, unwritten, Writes, comes, write}
-use Rattle.format.specs.declared.Written.{Written}
+use Rattle.format.specs.Results.{Written}
 use Rattle.rewriting.specs.Written.{writes-only}
 use Rattle.capi.specs.Handed.{Hands, only, SmallWritten}
 

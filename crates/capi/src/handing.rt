@@ -1,11 +1,13 @@
-// An answer's values, handed over one by one (include/gatehazel.h, "Answers").
+// An answer's values, handed over (include/gatehazel.h, "Answers").
 
-ghost use Rattle.std.specs.Prelude.{◌≡◌, [], ◌∷◌, ◌<◌, ◌^◌, pos, set};
+ghost use Rattle.std.specs.Prelude.{◌≡◌, [], ◌∷◌, ◌≤◌, ◌<◌, ◌^◌, pos, length};
 ghost use Rattle.format.specs.Answers.{said, of_refusal, of_decoded, of_written, of_nth_edge, of_matching, of_set_part};
-ghost use Rattle.format.specs.declared.Decoded.TheVariants as D;
 ghost use Rattle.capi.specs.Handed.{handed, Hands, Small, SmallWritten, SmallRefusal, SmallCounts, SmallPart};
 
 use format::{Counts, Decoded, Denial, Matching, NthEdge, Refusal, SetPart, Written};
+
+// Answers have room for so many values.
+const MOST: usize = 16;
 
 // A size, signed.
 fn signed(n: usize) -> i64
@@ -15,48 +17,47 @@ fn signed(n: usize) -> i64
     n as i64
 }
 
-// One element, if there is one.
-fn put(answer: &mut [i64], at: usize, value: i64)
-    ensures { answer.new ≡ set answer.old at value }
+// The values become the first elements, and zeros follow up to the 16th; of a shorter answer, as many as there are.
+fn hand(values: &[i64], answer: &mut [i64])
+    requires { length values.now ≤ 16 }
+    ensures { answer.new ≡ handed values.now answer.old }
 {
-    if at < answer.len() {
-        answer[at] = value;
-    }
+    let room = answer.len();
+    let cleared = room.min(MOST);
+    answer[..cleared].fill(0);
+    let given = room.min(values.len());
+    answer[..given].copy_from_slice(&values[..given]);
 }
 
-// The first 16 elements, or all of fewer, become 0.
-fn clear(answer: &mut [i64])
-    ensures { answer.new ≡ handed [] answer.old }
+// What is no refusal has the number 0.
+fn told(values: &[i64], answer: &mut [i64]) -> u32
+    requires { length values.now ≤ 16 }
+    ensures { Hands (said 0 values.now) result answer.old answer.new }
 {
-    let mut i: usize = 0;
-    while i < 16 {
-        put(answer, i, 0);
-        i += 1;
-    }
-}
-
-// One value.
-fn one(value: i64, answer: &mut [i64])
-    ensures { answer.new ≡ handed (value ∷ []) answer.old }
-{
-    clear(answer);
-    put(answer, 0, value);
-}
-
-// Two values.
-fn two(value: i64, second: i64, answer: &mut [i64])
-    ensures { answer.new ≡ handed (value ∷ second ∷ []) answer.old }
-{
-    one(value, answer);
-    put(answer, 1, second);
+    hand(values, answer);
+    0
 }
 
 // A question's refusal.
 fn denied(d: Denial, answer: &mut [i64]) -> u32
     ensures { Hands (said d.number (pos d.number ∷ d.value ∷ [])) result answer.old answer.new }
 {
-    two(signed(d.number as usize), d.value, answer);
+    hand(&[i64::from(d.number), d.value], answer);
     d.number
+}
+
+// A decode's or a writing's refusal.
+fn refused(r: Refusal, answer: &mut [i64]) -> u32
+    requires { SmallRefusal r }
+    ensures { Hands (of_refusal r) result answer.old answer.new }
+{
+    let number = i64::from(r.number);
+    let field = i64::from(r.field);
+    hand(
+        &[number, field, signed(r.place), r.value, signed(r.record)],
+        answer,
+    );
+    r.number
 }
 
 // The edge's number, or the refusal.
@@ -64,11 +65,8 @@ pub fn nth_edge(e: NthEdge, answer: &mut [i64]) -> u32
     ensures { Hands (of_nth_edge e) result answer.old answer.new }
 {
     match e {
-        NthEdge::Edge(n) => {
-            one(words::wide(n), answer);
-            0
-        }
-        NthEdge::Denied(d) => denied(d, answer),
+        Ok(n) => told(&[i64::from(n)], answer),
+        Err(d) => denied(d, answer),
     }
 }
 
@@ -77,11 +75,8 @@ pub fn matching(m: Matching, answer: &mut [i64]) -> u32
     ensures { Hands (of_matching m) result answer.old answer.new }
 {
     match m {
-        Matching::Matches(b) => {
-            one(signed(b as usize), answer);
-            0
-        }
-        Matching::Denied(d) => denied(d, answer),
+        Ok(b) => told(&[i64::from(b)], answer),
+        Err(d) => denied(d, answer),
     }
 }
 
@@ -91,41 +86,30 @@ pub fn set_part(p: SetPart, answer: &mut [i64]) -> u32
     ensures { Hands (of_set_part p) result answer.old answer.new }
 {
     match p {
-        SetPart::Part(from, length) => {
-            two(signed(from), signed(length), answer);
-            0
-        }
-        SetPart::Denied(d) => denied(d, answer),
+        Ok((from, length)) => told(&[signed(from), signed(length)], answer),
+        Err(d) => denied(d, answer),
     }
 }
 
-// A decode's or a writing's refusal.
-fn refused(r: Refusal, answer: &mut [i64]) -> u32
-    requires { SmallRefusal r }
-    ensures { Hands (of_refusal r) result answer.old answer.new }
-{
-    two(signed(r.number as usize), signed(r.field as usize), answer);
-    put(answer, 2, signed(r.place));
-    put(answer, 3, r.value);
-    put(answer, 4, signed(r.record));
-    r.number
-}
-
 // An acceptance's counts.
-fn accepted(c: Counts, answer: &mut [i64])
+fn accepted(c: Counts, answer: &mut [i64]) -> u32
     requires { SmallCounts c }
-    ensures { answer.new ≡ handed (of_decoded (D.Accepted c)).values answer.old }
+    ensures { Hands (of_decoded (Ok c)) result answer.old answer.new }
 {
-    two(signed(c.words), words::wide(c.token), answer);
-    put(answer, 2, signed(c.states));
-    put(answer, 3, signed(c.edges));
-    put(answer, 4, signed(c.derived));
-    put(answer, 5, signed(c.ranges));
-    put(answer, 6, signed(c.sets));
-    put(answer, 7, signed(c.rules));
-    put(answer, 8, signed(c.modes));
-    put(answer, 9, signed(c.decisions));
-    put(answer, 10, signed(c.actions));
+    let values = [
+        signed(c.words),
+        i64::from(c.token),
+        signed(c.states),
+        signed(c.edges),
+        signed(c.derived),
+        signed(c.ranges),
+        signed(c.sets),
+        signed(c.rules),
+        signed(c.modes),
+        signed(c.decisions),
+        signed(c.actions),
+    ];
+    told(&values, answer)
 }
 
 // A decode's counts, or its refusal.
@@ -134,11 +118,8 @@ pub fn decoded(d: Decoded, answer: &mut [i64]) -> u32
     ensures { Hands (of_decoded d) result answer.old answer.new }
 {
     match d {
-        Decoded::Accepted(c) => {
-            accepted(c, answer);
-            0
-        }
-        Decoded::Refused(r) => refused(r, answer),
+        Ok(c) => accepted(c, answer),
+        Err(r) => refused(r, answer),
     }
 }
 
@@ -148,10 +129,7 @@ pub fn written(w: Written, answer: &mut [i64]) -> u32
     ensures { Hands (of_written w) result answer.old answer.new }
 {
     match w {
-        Written::Wrote(n) => {
-            one(signed(n), answer);
-            0
-        }
-        Written::Refused(r) => refused(r, answer),
+        Ok(n) => told(&[signed(n)], answer),
+        Err(r) => refused(r, answer),
     }
 }

@@ -160,9 +160,5 @@ pub extern "C" fn gatehazel_set(
 pub extern "C" fn gatehazel_lookup(ranges: &[i32], value: i32) -> u32
     ensures { result ≡ bit (lookup ranges.now value) }
 {
-    if ranges::contains(ranges, value) {
-        1
-    } else {
-        0
-    }
+    u32::from(ranges::contains(ranges, value))
 }

@@ -1,6 +1,6 @@
 -- Demand 3, of `decode` itself. `Decodes t ws 0 r u` is decode's statement: lent the tables t and the words ws, it answers r and leaves
 -- the tables u. Each part takes two calls and says how the second answers, whatever its tables held before.
-use Rattle.std.specs.Prelude.{◌≡◌, refl, List, ◌++◌, ℕ, ◌-◌, ◌≤◌, ◌<◌, ℤ, take}
+use Rattle.std.specs.Prelude.{◌≡◌, refl, List, ◌++◌, ℕ, ◌-◌, ◌≤◌, ◌<◌, ℤ, take, Ok, Err}
 use Rattle.std.proofs.Common.{sym, ap, ◌∙◌, arith, zero-add}
 use Rattle.format.specs.Reading.{Table, ended, States, Edges, Ranges, Sets, Rules, Modes, Decisions, Actions, Scratch}
 use Rattle.format.specs.Tables.{nine, zeros}
@@ -8,8 +8,7 @@ use Rattle.format.specs.Decode.{Answer, decoded}
 use Rattle.format.specs.declared.Refusal.{Refusal}
 use Rattle.format.specs.declared.Spot.{Spot}
 use Rattle.format.specs.declared.Counts.{Counts}
-use Rattle.format.specs.declared.Decoded.{Decoded}
-use Rattle.format.specs.declared.Decoded.TheVariants as D
+use Rattle.format.specs.Results.{Decoded}
 use Rattle.laws.specs.Demand3 as laws
 use Rattle.inplace.specs.Whole.{Tables, blank}
 use Rattle.serialized.specs.Rooms.{lengths}
@@ -29,7 +28,7 @@ content_never_matters l a b = alike l refl a b
 
 -- "Say an accepted decode read n words. The same n words with anything after them give the same tables and counts"
 pub same_words_lem : {t t' : Tables} {ws : List ℤ} {c : Counts} {r' : Decoded} {u u' : Tables} (zs : List ℤ) → lengths t' ≡ lengths t
-    → Decodes t ws 0 (D.Accepted c) u → Decodes t' (take c.words ws ++ zs) 0 r' u' → (r' ≡ D.Accepted c) × (u' ≡ u)
+    → Decodes t ws 0 (Ok c) u → Decodes t' (take c.words ws ++ zs) 0 r' u' → (r' ≡ Ok c) × (u' ≡ u)
 same_words_lem {t} {ws = ws} {c = c} zs l a b =
     let e : decoded (lengths t) (take c.words ws ++ zs) 0 ≡ decoded (lengths t) ws 0 =
     ap (λ (n : ℕ). decoded (lengths t) (take n ws ++ zs) 0) (sym (zero-add c.words)) ∙ laws.same-again (lengths t) ws 0 c (sym a.told) zs in
@@ -37,7 +36,7 @@ same_words_lem {t} {ws = ws} {c = c} zs l a b =
 
 -- "any shorter run is refused as ended, at its own length", with all zero
 pub shorter_run : {t t' : Tables} {ws : List ℤ} {c : Counts} {r' : Decoded} {u u' : Tables} (m : ℕ) → lengths t' ≡ lengths t → m < c.words
-    → Decodes t ws 0 (D.Accepted c) u → Decodes t' (take m ws) 0 r' u' → (f : Spot) × ((r' ≡ D.Refused (ended f m)) × (u' ≡ blank (lengths t)))
+    → Decodes t ws 0 (Ok c) u → Decodes t' (take m ws) 0 r' u' → (f : Spot) × ((r' ≡ Err (ended f m)) × (u' ≡ blank (lengths t)))
 shorter_run {t} {t'} {ws} {c = c} m l h a b =
     let x = laws.cut_short (lengths t) ws 0 c (sym a.told) m (omega arith) in
     let e = ap (λ (n : Table → ℕ). decoded n (take m ws) 0) l ∙ x.1 in
@@ -45,7 +44,7 @@ shorter_run {t} {t'} {ws} {c = c} m l h a b =
 
 -- "a refusal other than "ended" survives added words"
 pub refusal-survives : {t t' : Tables} {ws : List ℤ} {q : Refusal} {r' : Decoded} {u u' : Tables} (zs : List ℤ) → lengths t' ≡ lengths t → (q.number ≡ 1 → ⊥)
-    → Decodes t ws 0 (D.Refused q) u → Decodes t' (ws ++ zs) 0 r' u' → (r' ≡ D.Refused q) × (u' ≡ u)
+    → Decodes t ws 0 (Err q) u → Decodes t' (ws ++ zs) 0 r' u' → (r' ≡ Err q) × (u' ≡ u)
 refusal-survives {t} {ws = ws} {q = q} zs l n a b = alike l (laws.stays_refused (lengths t) ws zs 0 q (sym a.told) n) a b
 
 -- One of nine tables.
@@ -65,7 +64,7 @@ left_at a Scratch = refl
 
 -- "more room alters no answer but "no room"", and every table keeps its words, with zeros behind them
 pub more_room : {t t' : Tables} {ws : List ℤ} {r r' : Decoded} {u u' : Tables} → ((k : Table) → lengths t k ≤ lengths t' k)
-    → ((q : Refusal) → r ≡ D.Refused q → q.number ≡ 12 → ⊥)
+    → ((q : Refusal) → r ≡ Err q → q.number ≡ 12 → ⊥)
     → Decodes t ws 0 r u → Decodes t' ws 0 r' u'
     → (r' ≡ r) × ((k : Table) → table_of u' k ≡ table_of u k ++ zeros (lengths t' k - lengths t k))
 more_room {t} {t'} {ws} g n a b =

@@ -13,37 +13,41 @@ pub struct WordReader<'a> {
     pub at: usize,
 }
 
-// A reader of these words, from this place on.
-pub fn new<'a>(words: &'a [i32], at: usize) -> WordReader<'a>
-    ensures { (result.words ≡ words.entry) × (result.at ≡ at) }
-{
-    WordReader { words, at }
-}
+impl<'a> WordReader<'a> {
+    // A reader of these words, from this place on.
+    pub fn new(words: &'a [i32], at: usize) -> Self
+        ensures words { result.words ≡ words.entry }
+        ensures at { result.at ≡ at }
+    {
+        WordReader { words, at }
+    }
 
-// The place it stands at.
-pub fn place<'a>(r: WordReader<'a>) -> usize
-    ensures { result ≡ r.entry.at }
-{
-    r.at
-}
+    // The place it stands at.
+    pub fn place(self) -> usize
+        ensures { result ≡ self.entry.at }
+    {
+        self.at
+    }
 
-// Opens the reader, and decodes its words from its place on.
-pub fn decode_from<'a>(
-    r: WordReader<'a>,
-    states: &mut [i32],
-    edges: &mut [i32],
-    ranges: &mut [i32],
-    sets: &mut [i32],
-    rules: &mut [i32],
-    modes: &mut [i32],
-    decisions: &mut [i32],
-    actions: &mut [i32],
-    scratch: &mut [i32],
-) -> Decoded
-    ensures { Decodes (tables states.old edges.old ranges.old sets.old rules.old modes.old decisions.old actions.old scratch.old) r.entry.words.now r.entry.at result
-        (tables states.new edges.new ranges.new sets.new rules.new modes.new decisions.new actions.new scratch.new) }
-{
-    serialized::deserialize(
-        r.words, r.at, states, edges, ranges, sets, rules, modes, decisions, actions, scratch,
-    )
+    // Opens the reader, and decodes its words from its place on.
+    pub fn decode_from(
+        self,
+        states: &mut [i32],
+        edges: &mut [i32],
+        ranges: &mut [i32],
+        sets: &mut [i32],
+        rules: &mut [i32],
+        modes: &mut [i32],
+        decisions: &mut [i32],
+        actions: &mut [i32],
+        scratch: &mut [i32],
+    ) -> Decoded
+        ensures { Decodes (tables states.old edges.old ranges.old sets.old rules.old modes.old decisions.old actions.old scratch.old) self.entry.words.now self.entry.at result
+            (tables states.new edges.new ranges.new sets.new rules.new modes.new decisions.new actions.new scratch.new) }
+    {
+        serialized::deserialize(
+            self.words, self.at, states, edges, ranges, sets, rules, modes, decisions, actions,
+            scratch,
+        )
+    }
 }

@@ -2,5 +2,4 @@
 pub mod Signs
 pub mod Walking
 pub mod Inside
-pub mod Types
 pub mod Meeting

@@ -2,9 +2,7 @@
 use Rattle.std.specs.Prelude.{◌≡◌, List, ℕ, ℤ}
 use Rattle.std.proofs.Common.{sym, ◌∙◌}
 use Rattle.format.specs.Questions.{nth_edge, set_part, part_of, matches}
-use Rattle.format.specs.declared.NthEdge.{NthEdge}
-use Rattle.format.specs.declared.SetPart.{SetPart}
-use Rattle.format.specs.declared.Matching.{Matching}
+use Rattle.format.specs.Results.{NthEdge, SetPart, Matching}
 
 only : {A : Type 0} {x y z : A} → x ≡ z → y ≡ z → x ≡ y
 only p q = p ∙ sym q

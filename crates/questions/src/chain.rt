@@ -6,7 +6,7 @@ ghost use Rattle.format.specs.Questions.{fits};
 ghost use Rattle.format.specs.Questions as spec;
 
 use crate::{denials, records};
-use format::NthEdge;
+use format::{NthEdge, edge};
 
 // So many steps on from the edge `first`. Every edge on the way is tested before it is followed, and so is the answer.
 pub fn walk(edges: &[i32], edge_count: usize, steps: usize, first: i32) -> NthEdge
@@ -14,16 +14,14 @@ pub fn walk(edges: &[i32], edge_count: usize, steps: usize, first: i32) -> NthEd
     ensures { result ≡ spec.walk edges.now edge_count steps first }
 {
     let mut edge = first;
-    let mut left = steps;
-    while 0 < left {
+    for _ in 0..steps {
         if !records::listed(edge_count, edge) {
-            return NthEdge::Denied(denials::contradiction());
+            return Err(denials::contradiction());
         }
-        edge = records::word(edges, records::EDGE, edge, 7);
-        left -= 1;
+        edge = records::word(edges, edge::WIDTH, edge, edge::NEXT);
     }
     if !records::listed(edge_count, edge) {
-        return NthEdge::Denied(denials::contradiction());
+        return Err(denials::contradiction());
     }
-    NthEdge::Edge(edge)
+    Ok(edge)
 }

@@ -4,14 +4,15 @@ ghost use Rattle.std.specs.Prelude.{◌≡◌};
 ghost use Rattle.format.specs.Questions as spec;
 
 use format::Denial;
+use format::reason::Reason;
 
 // "13: a question names no such record": value the number.
 pub fn missing(number: i32) -> Denial
     ensures { result ≡ spec.missing number }
 {
     Denial {
-        number: 13,
-        value: words::wide(number),
+        number: Reason::NoSuchRecord.number(),
+        value: i64::from(number),
     }
 }
 
@@ -20,7 +21,7 @@ pub fn contradiction() -> Denial
     ensures { result ≡ spec.contradiction }
 {
     Denial {
-        number: 14,
+        number: Reason::Contradiction.number(),
         value: 0,
     }
 }

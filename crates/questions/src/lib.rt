@@ -6,7 +6,6 @@
 mod chain;
 mod denials;
 mod matching;
-mod numbers;
 mod parts;
 mod records;
 
@@ -14,7 +13,7 @@ ghost use Rattle.std.specs.Prelude.{◌≡◌};
 ghost use Rattle.format.specs.Questions.{nth_edge, set_part, part_of};
 ghost use Rattle.format.specs.Questions as spec;
 
-use format::{Matching, NthEdge, SetPart};
+use format::{Matching, NthEdge, SetPart, edge, range, set, state};
 
 // "the number of a state's n-th edge (n from 0)"
 pub fn nth_edge(
@@ -27,23 +26,19 @@ pub fn nth_edge(
 ) -> NthEdge
     ensures { result ≡ nth_edge states.now state_count edges.now edge_count state n }
 {
-    if !records::fits(states, records::STATE, state_count) {
-        return NthEdge::Denied(denials::contradiction());
-    }
-    if !records::fits(edges, records::EDGE, edge_count) {
-        return NthEdge::Denied(denials::contradiction());
-    }
+    records::check(states, state::WIDTH, state_count)?;
+    records::check(edges, edge::WIDTH, edge_count)?;
     if !records::listed(state_count, state) {
-        return NthEdge::Denied(denials::missing(state));
+        return Err(denials::missing(state));
     }
-    if !numbers::at_most(0, n) {
-        return NthEdge::Denied(denials::missing(n));
+    let Some(steps) = words::index_of(n) else {
+        return Err(denials::missing(n));
+    };
+    if records::word(states, state::WIDTH, state, state::COUNT) <= n {
+        return Err(denials::missing(n));
     }
-    if numbers::at_most(records::word(states, records::STATE, state, 7), n) {
-        return NthEdge::Denied(denials::missing(n));
-    }
-    let first = records::word(states, records::STATE, state, 5);
-    chain::walk(edges, edge_count, numbers::size_of(n), first)
+    let first = records::word(states, state::WIDTH, state, state::FIRST);
+    chain::walk(edges, edge_count, steps, first)
 }
 
 // "a set's ranges as a part of the lent table": the part's first word and its length in words, or why not. This is the one place
@@ -57,21 +52,18 @@ pub fn set_part(
 ) -> SetPart
     ensures { result ≡ set_part sets.now set_count ranges.now range_count set }
 {
-    if !records::fits(sets, records::SET, set_count) {
-        return SetPart::Denied(denials::contradiction());
-    }
-    if !records::fits(ranges, records::RANGE, range_count) {
-        return SetPart::Denied(denials::contradiction());
-    }
+    records::check(sets, set::WIDTH, set_count)?;
+    records::check(ranges, range::WIDTH, range_count)?;
     if !records::listed(set_count, set) {
-        return SetPart::Denied(denials::missing(set));
+        return Err(denials::missing(set));
     }
-    let first = records::word(sets, records::SET, set, 0);
-    let count = records::word(sets, records::SET, set, 1);
+    let first = records::word(sets, set::WIDTH, set, set::FIRST);
+    let count = records::word(sets, set::WIDTH, set, set::COUNT);
     parts::part(first, count, range_count)
 }
 
 // The part itself: empty where `set_part` refuses.
+#[tactic(auto, using(crate::proofs::Inside::room))]
 pub fn set_ranges<'a>(
     sets: &[i32],
     set_count: usize,
@@ -82,11 +74,8 @@ pub fn set_ranges<'a>(
     ensures { result.now ≡ part_of ranges.now (set_part sets.now set_count ranges.now range_count set) }
 {
     match set_part(sets, set_count, ranges, range_count, set) {
-        SetPart::Part(from, length) => {
-            let to = from + length;
-            &ranges[from..to]
-        }
-        SetPart::Denied(_) => &ranges[0..0],
+        Ok((from, length)) => &ranges[from..from + length],
+        Err(_) => &[],
     }
 }
 
@@ -105,15 +94,15 @@ pub fn matches(
 ) -> Matching
     ensures { result ≡ spec.matches edges.now edge_count sets.now set_count ranges.now range_count edge symbol min max }
 {
-    if !records::all_fit(edges, edge_count, sets, set_count, ranges, range_count) {
-        return Matching::Denied(denials::contradiction());
-    }
+    records::check(edges, edge::WIDTH, edge_count)?;
+    records::check(sets, set::WIDTH, set_count)?;
+    records::check(ranges, range::WIDTH, range_count)?;
     if !records::listed(edge_count, edge) {
-        return Matching::Denied(denials::missing(edge));
+        return Err(denials::missing(edge));
     }
-    let kind = records::word(edges, records::EDGE, edge, 0);
-    let p = records::word(edges, records::EDGE, edge, 3);
-    let q = records::word(edges, records::EDGE, edge, 4);
+    let kind = records::word(edges, edge::WIDTH, edge, edge::KIND);
+    let p = records::word(edges, edge::WIDTH, edge, edge::P);
+    let q = records::word(edges, edge::WIDTH, edge, edge::Q);
     matching::meets(
         kind,
         p,
