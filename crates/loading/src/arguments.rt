@@ -1,4 +1,4 @@
-// The words of the command line, as bytes.
+// The words of the command line, as bytes, which need not be text.
 
 ghost use Rattle.std.specs.Prelude.{◌≤◌, length};
 
@@ -19,8 +19,5 @@ pub fn count(rt: &impl Env) -> usize {
 pub fn get(rt: &impl Env, i: usize, out: &mut [u8]) -> usize
     ensures { result ≤ length out.new }
 {
-    match rt.arg(i, out) {
-        Ok(n) => n,
-        Err(_) => 0,
-    }
+    rt.arg(i, out).unwrap_or(0)
 }

@@ -17,7 +17,8 @@ pub fn open<R: Files>(rt: &R, name: &[u8]) -> Option<R::File> {
     std::fs::open(rt, path).ok()
 }
 
-// Puts bytes at the start of `out` until it is full or there are no more, and answers how many.
+// Puts bytes at the start of `out` until it is full or there are no more, and answers how many. (A `while`, since each read says how far it
+// came, and std's `read_to_end` and `read_exact` say less of an end or an error in mid-stream.)
 pub fn read_full<R: Read>(from: &mut R, out: &mut [u8]) -> io::Result<usize>
     ensures counted { ReadsAtMost result out.new }
     ensures bytes { IfOk result (λ n. Consumes (R.remaining from.old) (R.remaining from.new) (take n out.new)) }

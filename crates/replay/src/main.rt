@@ -5,9 +5,8 @@
 
 #![tactic(auto)]
 
-mod cases;
 mod compare;
-mod lending;
+mod replaying;
 mod stored;
 mod tally;
 mod written;
@@ -15,44 +14,52 @@ mod written;
 use std::io;
 use std::io::Read;
 use std::rt::Files;
+use tally::Tally;
 
 // The bytes of one block, as words.
-fn replay_bytes(rt: &impl Print, tally: &mut [usize], bytes: &[u8]) -> io::Result<()> {
+fn replay_bytes(
+    rt: &(impl Print + AllocGlobal),
+    tally: &mut Tally,
+    bytes: &[u8],
+) -> io::Result<()> {
     let mut list = [0i32; 65536];
     let n = loading::words_of(bytes, &mut list);
-    cases::replay_block(rt, tally, &list[..n])
+    replaying::replay_block(rt, tally, &list[..n])
 }
 
 // One block of the file; whether there was one.
-fn replay_next(rt: &impl Print, tally: &mut [usize], from: &mut impl Read) -> io::Result<bool> {
+fn replay_next(
+    rt: &(impl Print + AllocGlobal),
+    tally: &mut Tally,
+    from: &mut impl Read,
+) -> io::Result<bool> {
     let mut bytes = [0u8; 262144];
     let n = loading::files::read_full(from, &mut bytes)?;
-    if n == 0 {
-        return Ok(false);
-    }
     replay_bytes(rt, tally, &bytes[..n])?;
-    Ok(true)
+    Ok(n > 0)
 }
 
-// Nothing says that a file ends, so that the blocks are counted down from more than there are.
-fn replay_file(rt: &impl Print, tally: &mut [usize], from: &mut impl Read) -> io::Result<()> {
-    let mut left: usize = 1000;
-    while left > 0 {
+// Nothing says that a file ends, so that the blocks are counted, up to more than there are.
+fn replay_file(
+    rt: &(impl Print + AllocGlobal),
+    tally: &mut Tally,
+    from: &mut impl Read,
+) -> io::Result<()> {
+    for _ in 0..1000 {
         if !replay_next(rt, tally, from)? {
-            return Ok(());
+            break;
         }
-        left -= 1;
     }
     Ok(())
 }
 
-fn run(rt: &(impl Print + Files)) -> io::Result<()> {
+fn run(rt: &(impl Print + Files + AllocGlobal)) -> io::Result<()> {
     let Some(mut file) = loading::files::open(rt, b"answers.words") else {
-        return printing::text(rt, b"answers.words is missing\n");
+        return println!(rt; "answers.words is missing");
     };
-    let mut tally = [0usize; 19];
+    let mut tally = Tally::new();
     replay_file(rt, &mut tally, &mut file)?;
-    tally::print(rt, &tally)
+    print!(rt; "{tally}")
 }
 
 fn main(rt: HostRuntime) -> io::Result<()> {

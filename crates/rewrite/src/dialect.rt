@@ -1,87 +1,110 @@
-// A dialect's words, decoded, patched and written. Document 02, R-1.
+// A dialect file: read, decoded, its token types set, and written. Document 02, R-1.
 
-use crate::tokens;
-use format::{Counts, Decoded, Refusal, Written};
-use std::io;
+use crate::arguments::Setting;
+use crate::output;
+use format::{Refusal, rule};
+use lending::Tables;
+use loading::dialect::WORDS;
+use printing::refusals::{Undecoded, Unwritten};
+use std::alloc::AllocError;
+use std::fmt;
+use std::fmt::Display;
+use std::rt::Files;
 
-// The number of words that were written; or why not: the decoder's refusal, the writer's, or a rule that is not listed, of which a line
-// has told.
-#[derive(Clone, Copy)]
-pub enum Outcome {
-    Wrote(usize),
+// At most twice as many words are written as were read: a set that had the EOF flag may get a range more, two words, and was read from two
+// words at least, its interval count and the flag; nothing else grows.
+const WRITTEN: usize = 65536;
+
+// Why nothing is put out, or not all: the file is no dialect, the decoder refuses it, or the writer, a rule is not listed, or standard
+// output can't be written to.
+#[derive(Drop)]
+pub enum Fault {
+    File(loading::dialect::Fault),
     Undecoded(Refusal),
     Unwritten(Refusal),
-    Unlisted,
+    Unlisted { rule: String, listed: usize },
+    Overlong,
+    Output,
+    OutOfMemory,
 }
 
-// The tables with the token types that are asked for, as words.
-fn write(
-    rt: &HostRuntime,
-    c: Counts,
-    states: &[i32],
-    edges: &[i32],
-    ranges: &[i32],
-    sets: &[i32],
-    rules: &mut [i32],
-    modes: &[i32],
-    decisions: &[i32],
-    actions: &[i32],
-    out: &mut [i32],
-) -> io::Result<Outcome> {
-    if !tokens::set(rt, rules, c.rules)? {
-        return Ok(Outcome::Unlisted);
-    }
-    match gatehazel::write(
-        states,
-        c.states,
-        edges,
-        c.edges,
-        ranges,
-        c.ranges,
-        sets,
-        c.sets,
-        rules,
-        c.rules,
-        modes,
-        c.modes,
-        decisions,
-        c.decisions,
-        actions,
-        c.actions,
-        c.token,
-        out,
-    ) {
-        Written::Wrote(n) => Ok(Outcome::Wrote(n)),
-        Written::Refused(r) => Ok(Outcome::Unwritten(r)),
+impl Fault {
+    // What its line is about.
+    pub fn about<'a>(&self, file: &'a [u8]) -> &'a [u8] {
+        match self {
+            Fault::File(_) | Fault::Undecoded(_) | Fault::Unwritten(_) => file,
+            _ => b"rewrite",
+        }
     }
 }
 
-// The tables have room for 32,768 records each, as many as a dialect can have words.
-pub fn rewrite(rt: &HostRuntime, words: &[i32], out: &mut [i32]) -> io::Result<Outcome> {
-    let mut states = [0i32; 262144];
-    let mut edges = [0i32; 262144];
-    let mut ranges = [0i32; 65536];
-    let mut sets = [0i32; 65536];
-    let mut rules = [0i32; 98304];
-    let mut modes = [0i32; 32768];
-    let mut decisions = [0i32; 32768];
-    let mut actions = [0i32; 98304];
-    let mut scratch = [0i32; 131072];
-    match gatehazel::decode(
-        words,
-        &mut states,
-        &mut edges,
-        &mut ranges,
-        &mut sets,
-        &mut rules,
-        &mut modes,
-        &mut decisions,
-        &mut actions,
-        &mut scratch,
-    ) {
-        Decoded::Accepted(c) => write(
-            rt, c, &states, &edges, &ranges, &sets, &mut rules, &modes, &decisions, &actions, out,
-        ),
-        Decoded::Refused(r) => Ok(Outcome::Undecoded(r)),
+impl Display for Fault {
+    fn fmt<W: fmt::Write>(&self, f: &mut fmt::Formatter<W>) -> fmt::Result {
+        match self {
+            Fault::File(fault) => write!(f, "{fault}"),
+            Fault::Undecoded(refusal) => {
+                let undecoded = Undecoded {
+                    refusal: *refusal,
+                    room: WORDS,
+                };
+                write!(f, "{undecoded}")
+            }
+            Fault::Unwritten(refusal) => write!(f, "{}", Unwritten(*refusal)),
+            Fault::Unlisted { rule, listed } => write!(
+                f,
+                "--token: rule {rule} is not listed; rules of this dialect, numbered from 0: {listed}"
+            ),
+            Fault::Overlong => write!(f, "more words were written than there is room for"),
+            Fault::Output => write!(
+                f,
+                "standard output can't be written to, and what stands there is not whole"
+            ),
+            Fault::OutOfMemory => write!(f, "there is no memory for the tables"),
+        }
     }
+}
+
+impl From<loading::dialect::Fault> for Fault {
+    fn from(fault: loading::dialect::Fault) -> Self {
+        Fault::File(fault)
+    }
+}
+
+impl From<AllocError> for Fault {
+    fn from(_error: AllocError) -> Self {
+        Fault::OutOfMemory
+    }
+}
+
+// A rule's token type, in the first records of the rules' table.
+fn set(rules: &mut [i32], listed: usize, setting: Setting) -> Result<(), Fault> {
+    let Setting { rule, token } = setting;
+    let (records, _) = rules.as_chunks_mut::<{ rule::WIDTH }>();
+    match rule.parse::<usize>() {
+        Ok(n) if n < listed && n < records.len() => {
+            records[n][rule::TOKEN] = token;
+            Ok(())
+        }
+        _ => Err(Fault::Unlisted { rule, listed }),
+    }
+}
+
+// The file, rewritten; of two token types for one rule the last counts. Each table has room for as many records as a dialect can have
+// words.
+pub fn rewrite(
+    rt: &(impl Files + Print + AllocGlobal),
+    file: &[u8],
+    settings: Vec<Setting>,
+) -> Result<(), Fault> {
+    let mut words = [0i32; WORDS];
+    let n = loading::dialect::read(rt, file, &mut words)?;
+    let mut tables = Tables::for_records(rt.alloc(), WORDS)?;
+    let counts = tables.decode(&words[..n]).map_err(Fault::Undecoded)?;
+    for setting in settings {
+        set(&mut tables.rules, counts.rules, setting)?;
+    }
+    let mut out = [0i32; WRITTEN];
+    let n = tables.write(counts, &mut out).map_err(Fault::Unwritten)?;
+    let words = out.get(..n).ok_or(Fault::Overlong)?;
+    output::put(rt, words).map_err(|_| Fault::Output)
 }

@@ -1,86 +1,106 @@
 // Symbols and ranges of symbols, as a person reads them.
 
-use crate::records;
-use std::io;
-use words::Sign;
-
-// Whether a symbol is shown as itself: printable ASCII, but for the quotes and the backslash, which a reader of the text or of
-// the graph would have to see escaped.
-fn is_shown(n: usize) -> bool {
-    if n == 34 || n == 39 || n == 92 {
-        return false;
-    }
-    n > 32 && n < 127
-}
-
-fn quoted(rt: &impl Print, n: usize) -> io::Result<()> {
-    if n < 127 {
-        printing::text(rt, b"'")?;
-        printing::text(rt, &[n as u8])?;
-        printing::text(rt, b"'")?;
-    }
-    Ok(())
-}
+use crate::dialect::Range;
+use format::range;
+use std::fmt;
+use std::fmt::Display;
 
 // A symbol: 'a', EOF for -1, or its number.
-pub fn symbol(rt: &impl Print, x: i32) -> io::Result<()> {
-    if x == -1 {
-        return printing::text(rt, b"EOF");
-    }
-    match words::sign_of(x) {
-        Sign::Natural(n) => {
-            if is_shown(n) {
-                quoted(rt, n)
-            } else {
-                printing::size(rt, n)
+#[derive(Clone, Copy)]
+pub struct Symbol(pub i32);
+
+impl Display for Symbol {
+    fn fmt<W: fmt::Write>(&self, f: &mut fmt::Formatter<W>) -> fmt::Result {
+        let symbol = self.0;
+        match symbol {
+            -1 => write!(f, "EOF"),
+            // The quotes and the backslash, which a reader of the text or of the graph would have to see escaped.
+            34 | 39 | 92 => write!(f, "{symbol}"),
+            33..=126 => {
+                let shown = symbol as u8 as char;
+                write!(f, "'{shown}'")
             }
+            _ => write!(f, "{symbol}"),
         }
-        Sign::Negative => printing::number(rt, words::wide(x)),
     }
 }
 
-// The numbers of a range.
-fn numbers(rt: &impl Print, start: i32, stop: i32) -> io::Result<()> {
-    printing::number(rt, words::wide(start))?;
-    printing::text(rt, b"..")?;
-    printing::number(rt, words::wide(stop))
-}
+// A range by its symbols; one alone where it has only one.
+#[derive(Clone, Copy)]
+pub struct Symbols(pub Range);
 
-// Symbols of a range; one alone where it has only one.
-pub fn symbols(rt: &impl Print, start: i32, stop: i32) -> io::Result<()> {
-    symbol(rt, start)?;
-    if start != stop {
-        printing::text(rt, b"..")?;
-        symbol(rt, stop)?;
+impl Display for Symbols {
+    fn fmt<W: fmt::Write>(&self, f: &mut fmt::Formatter<W>) -> fmt::Result {
+        let start = Symbol(self.0[range::START]);
+        let stop = Symbol(self.0[range::STOP]);
+        if start.0 == stop.0 {
+            write!(f, "{start}")
+        } else {
+            write!(f, "{start}..{stop}")
+        }
     }
-    Ok(())
 }
 
-// The ranges of a set, in numbers or as symbols, with a comma between two; behind the first `most` only their number.
-pub fn ranges(rt: &impl Print, part: &[i32], most: usize, in_numbers: bool) -> io::Result<()> {
-    let count = part.len() / 2;
-    let mut i: usize = 0;
-    while i < count {
+// A range by its numbers.
+#[derive(Clone, Copy)]
+pub struct Numbers(pub Range);
+
+impl Display for Numbers {
+    fn fmt<W: fmt::Write>(&self, f: &mut fmt::Formatter<W>) -> fmt::Result {
+        let start = self.0[range::START];
+        let stop = self.0[range::STOP];
+        write!(f, "{start}..{stop}")
+    }
+}
+
+// Ranges, each as `shown` has it, with a comma between two; behind the first `most` only how many there are.
+fn list<W: fmt::Write, D: Display + Drop, F: Fn(Range) -> D>(
+    f: &mut fmt::Formatter<W>,
+    ranges: &[Range],
+    most: usize,
+    shown: F,
+) -> fmt::Result
+    requires { F.IsAlwaysCallable shown }
+{
+    for (i, range) in ranges.iter().enumerate() {
         if i >= most {
-            printing::text(rt, b", .. ")?;
-            printing::size(rt, count)?;
-            return printing::text(rt, b" ranges");
+            let count = ranges.len();
+            return write!(f, ", .. {count} ranges");
         }
         if i > 0 {
-            printing::text(rt, b", ")?;
+            write!(f, ", ")?;
         }
-        range(rt, part, i, in_numbers)?;
-        i += 1;
+        let one = shown(*range);
+        write!(f, "{one}")?;
     }
     Ok(())
 }
 
-fn range(rt: &impl Print, part: &[i32], i: usize, in_numbers: bool) -> io::Result<()> {
-    let start = records::word(part, 2, i, 0);
-    let stop = records::word(part, 2, i, 1);
-    if in_numbers {
-        numbers(rt, start, stop)
-    } else {
-        symbols(rt, start, stop)
+// The first of a set's ranges, in numbers.
+#[derive(Clone, Copy)]
+pub struct Few<'a>(pub &'a [Range]);
+
+impl Display for Few<'_> {
+    fn fmt<W: fmt::Write>(&self, f: &mut fmt::Formatter<W>) -> fmt::Result {
+        write!(f, "{{")?;
+        list(f, self.0, 4, Numbers)?;
+        write!(f, "}}")
+    }
+}
+
+// A set's ranges, in numbers and as symbols.
+#[derive(Clone, Copy)]
+pub struct All<'a>(pub &'a [Range]);
+
+impl Display for All<'_> {
+    fn fmt<W: fmt::Write>(&self, f: &mut fmt::Formatter<W>) -> fmt::Result {
+        write!(f, "{{")?;
+        list(f, self.0, usize::MAX, Numbers)?;
+        write!(f, "}}")?;
+        if !self.0.is_empty() {
+            write!(f, " ")?;
+            list(f, self.0, usize::MAX, Symbols)?;
+        }
+        Ok(())
     }
 }

@@ -1,42 +1,40 @@
--- `compare::holds_words` meets its contract: what is left to compare decides, from the last word down. Assumes nothing.
-use Rattle.std.proofs.Common.{◌≡◌, refl, sym, ap, ap₂, ◌∙◌, ℕ, zero, suc, ◌-◌, ◌<◌, arith, List, Bool, true, false, ◌&&◌, ℤ, length, le-leb}
+-- `compare::holds_words` meets its contract: the words at each place are tested. Assumes nothing.
+use Rattle.std.proofs.Common.{◌≡◌, refl, sym, ap, ◌∙◌, subst, zero-add, ℕ, suc, ◌<◌, arith, rules, tests, List, Bool, true, false, ◌&&◌, ℤ, pos, negsuc, nat_abs, length, le-leb, Decides, MatchBool}
+use Rattle.std.specs.List.{AllWithin, HoldsAt, range_with_len}
+use Rattle.std.proofs.lemmas.Bool.{false≢true}
+use Rattle.std.proofs.lemmas.Bool.Decides.{same_from_decides, Decides-below_and, Decides-eqb, Decides-like}
+use Rattle.std.proofs.lemmas.Iterator.{cases_from_all, YieldsList-from_range}
+use Rattle.std.proofs.lemmas.List.FromFn.{length-range_with_len, get_or-range_with_len}
 use Rattle.format.specs.Sections.{same}
-use Rattle.words.proofs.Signs.{back32}
 use Rattle.replay.specs.Compare.{word_at, agree}
 use Rattle.replay.proofs.compare.holds_words.Goals as goal
 
--- the last of n words, and those before it
-last : (n : ℕ) (t e : List ℤ) → 0 < n → agree n t e ≡ (same (word_at t (n - 1)) (word_at e (n - 1)) && agree (n - 1) t e)
+decides : (a b : ℤ) → Decides (same a b) (a ≡ b)
+decides (pos a) (pos b) = Decides-like (same (pos a) (pos b)) (λ e. ap pos e) (λ e. ap nat_abs e) (Decides-eqb a b)
+decides (pos a) (negsuc b) = (λ h. absurd (false≢true h), λ e. absurd (let f : ◌≡◌ {A = ℕ} 0 1 = cc in omega arith))
+decides (negsuc a) (pos b) = (λ h. absurd (false≢true h), λ e. absurd (let f : ◌≡◌ {A = ℕ} 0 1 = cc in omega arith))
+decides (negsuc a) (negsuc b) =
+    Decides-like (same (negsuc a) (negsuc b)) (λ e. ap negsuc e) (λ e. let f : suc a ≡ suc b = ap nat_abs e in omega arith) (Decides-eqb a b)
+
+-- what the definition decides
+decides_agree : (n : ℕ) (t e : List ℤ) → Decides (agree n t e) ((k : ℕ) → k < n → word_at t k ≡ word_at e k)
 unfolding agree
-last zero t e h = absurd (omega arith)
-last (suc n) t e h = let q : n ≡ suc n - 1 = omega arith in ap (λ (k : ℕ). same (word_at t k) (word_at e k) && agree k t e) q
+decides_agree n t e =
+    Decides-below_and (λ k. same (word_at t k) (word_at e k)) (λ k. word_at t k ≡ word_at e k) (λ k. agree k t e) (λ k. decides (word_at t k) (word_at e k)) refl (λ k. refl) n
 
-none : (t e : List ℤ) → true ≡ agree 0 t e
-unfolding agree
-none t e = refl
+-- what a test of each place decides
+decides_all : (r : Bool) (n : ℕ) (P : ℕ → Type 0) → MatchBool r (AllWithin P (range_with_len 0 n) 0 (length (range_with_len 0 n))) ((k : ℕ) × (k < length (range_with_len 0 n)) × HoldsAt (λ i. P i → ⊥) (range_with_len 0 n) k) → Decides r ((k : ℕ) → k < n → P k)
+decides_all true n P h =
+    (λ _ k below. subst P (get_or-range_with_len 0 n k 0 below ∙ zero-add k) (h k 0 (omega arith) (omega (arith, length-range_with_len 0 n))), λ _. refl)
+decides_all false n P h =
+    let below : h.0 < n = omega (arith, length-range_with_len 0 n, h.1) in
+    (λ e. absurd (false≢true e), λ all. absurd (h.2 0 (subst P (sym (get_or-range_with_len 0 n h.0 0 below ∙ zero-add h.0)) (all h.0 below))))
 
--- the last of n words, once it was looked at
-stepped : (n : ℕ) (t e : List ℤ) (b : Bool) → 0 < n → same (word_at t (n - 1)) (word_at e (n - 1)) ≡ b → agree n t e ≡ (b && agree (n - 1) t e)
-stepped n t e b h tested = last n t e h ∙ ap (λ d. d && agree (n - 1) t e) tested
-
-pub returns-then-not-equal : goal.returns-then-not-equal
-returns-then-not-equal c =
-    let a = c.args in
-    let l = c.loop-left in
-    let tested : same (word_at a.table.now (l.left - 1)) (word_at a.expected.now (l.left - 1)) ≡ false =
-    sym (sym c.if-not-equal.true ∙ c.equal.ensures ∙ ap₂ same (back32 c.word.result c.word.type_inv ∙ c.word.ensures) (back32 c.word-in-loop-left.result c.word-in-loop-left.type_inv ∙ c.word-in-loop-left.ensures)) in
-    sym (ap₂ ◌&&◌ (le-leb (length a.expected.now) (length a.table.now) (omega arith)) (l.invariant.1 ∙ stepped l.left a.table.now a.expected.now false (omega arith) tested))
-
-pub loop-left-preserved : goal.loop-left-preserved
-loop-left-preserved c =
-    let a = c.args in
-    let l = c.loop-left in
-    let tested : same (word_at a.table.now (l.left - 1)) (word_at a.expected.now (l.left - 1)) ≡ true =
-    sym (sym c.if-not-equal.false ∙ c.equal.ensures ∙ ap₂ same (back32 c.word.result c.word.type_inv ∙ c.word.ensures) (back32 c.word-in-loop-left.result c.word-in-loop-left.type_inv ∙ c.word-in-loop-left.ensures)) in
-    (omega arith, l.invariant.1 ∙ stepped l.left a.table.now a.expected.now true (omega arith) tested)
-
-pub returns : goal.returns
-returns c =
-    let a = c.args in
-    let q : c.loop-left.left ≡ 0 = omega arith in
-    sym (ap₂ ◌&&◌ (le-leb (length a.expected.now) (length a.table.now) (omega arith)) (c.loop-left.invariant.1 ∙ ap (λ (k : ℕ). agree k a.table.now a.expected.now) q ∙ sym (none a.table.now a.expected.now)))
+pub returns-then-expected-table : goal.returns-then-expected-table
+returns-then-expected-table c =
+    let t = c.args.table.now in
+    let e = c.args.expected.now in
+    let n = length t in
+    let cases = cases_from_all _ _ _ (λ i. word_at t i ≡ word_at e i) (λ i. word_at t i ≡ word_at e i → ⊥) c.all.ensures.ran (YieldsList-from_range 0 n n refl (omega arith)) (λ x q k. search (rules, tests)) (λ x q k. search (rules, tests)) in
+    same_from_decides _ (agree n t e) (decides_all _ n (λ i. word_at t i ≡ word_at e i) cases) (decides_agree n t e)
+    ∙ sym (ap (λ b. b && agree n t e) (le-leb (length e) n c.if-expected-table.true))

@@ -1,10 +1,7 @@
 -- `output::bytes_of` meets its contract: so far, each word that is read from the bytes is the word that was put. Assumes nothing.
-use Rattle.std.proofs.Common.{◌-◌, ◌≡◌, ℕ, ◌≤◌, ◌<◌, pos, length, get_or}
+use Rattle.std.proofs.Common.{◌≡◌, ℕ, ◌<◌, pos, get_or}
 use Rattle.loading.specs.Bytes.{word_at}
 use Rattle.rewrite.proofs.output.bytes_of.Given as goal
 
 abbrev pub invariant-loop-i : goal.invariant-loop-i
-invariant-loop-i l = (l.i ≤ l.n) × (length l.out ≡ length l.initial.out) × ((k : ℕ) → k < l.i → word_at l.out k ≡ get_or l.words k (pos 0))
-
-abbrev pub decreases-loop-i : goal.decreases-loop-i
-decreases-loop-i l = l.n - l.i
+invariant-loop-i l = (k : ℕ) → k < l.i → word_at l.out k ≡ get_or l.words k (pos 0)

@@ -1,0 +1,2 @@
+-- What tables that a program owns hold.
+pub mod Owned

@@ -1,6 +1,0 @@
--- `symbols::ranges` is safe and ends: one range fewer is left after each turn. Assumes nothing.
-use Rattle.std.proofs.Common.{◌-◌}
-use Rattle.show.proofs.symbols.ranges.Given as goal
-
-abbrev pub decreases-loop-i : goal.decreases-loop-i
-decreases-loop-i g l = l.count - l.i
