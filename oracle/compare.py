@@ -39,14 +39,11 @@ FORMAT = os.path.join(os.path.dirname(os.path.abspath(__file__)), "..", "crates"
 # The definitions' names that the theorems use, by module. What they rest on is found in the files.
 USED = {
     "Reading": ["Table", *TABLES], "Decode": ["Answer", "decoded"], "Questions": ["matches", "nth_edge", "set_part", "part_of"],
-    "declared.Decoded": ["Decoded"], "declared.Matching": ["Matching"], "declared.NthEdge": ["NthEdge"],
+    "Results": ["Decoded", "Matching", "NthEdge"],
 }
 
 PREAMBLE = """-- What the definitions compute, against what the oracle said: made by oracle/compare.py.
-use Rattle.std.specs.Prelude.{◌≡◌, refl, true, false, List, [], ◌∷◌, ℕ, ◌-◌, ℤ, pos, negsuc, replicate}
-use Rattle.format.specs.declared.Decoded.TheVariants as D
-use Rattle.format.specs.declared.Matching.TheVariants as M
-use Rattle.format.specs.declared.NthEdge.TheVariants as E
+use Rattle.std.specs.Prelude.{◌≡◌, refl, true, false, List, [], ◌∷◌, ℕ, ◌-◌, ℤ, pos, negsuc, replicate, Ok, Err}
 @uses
 
 infixr 67 ◌▸◌
@@ -64,22 +61,22 @@ noughts n = replicate n (pos 0)
 abbrev sizes : ℕ → ℕ → ℕ → ℕ → ℕ → ℕ → ℕ → ℕ → ℕ → Table → ℕ
 @sizes
 
-record Result : Type 0 where
+record Computed : Type 0 where
   told : Decoded
   left : List (List ℤ)
 
-abbrev outcome : Decoded → List (List ℤ) → Result
+abbrev outcome : Decoded → List (List ℤ) → Computed
 outcome d l = record { told = d; left = l }
 
-abbrev computed : (Table → ℕ) → List ℤ → ℕ → Result
+abbrev computed : (Table → ℕ) → List ℤ → ℕ → Computed
 computed lent ws at = let a = decoded lent ws at in outcome a.told (@left [])
 
 abbrev accepted : ℕ → ℤ → ℕ → ℕ → ℕ → ℕ → ℕ → ℕ → ℕ → ℕ → ℕ → Decoded
 accepted w t a b c d e f g h i =
-    D.Accepted (record { words = w; token = t; states = a; edges = b; derived = c; ranges = d; sets = e; rules = f; modes = g; decisions = h; actions = i })
+    Ok (record { words = w; token = t; states = a; edges = b; derived = c; ranges = d; sets = e; rules = f; modes = g; decisions = h; actions = i })
 
 abbrev refused : ℕ → ℕ → ℕ → ℤ → ℕ → Decoded
-refused n f p v i = D.Refused (record { number = n; field = f; «record» = i; place = p; value = v })
+refused n f p v i = Err (record { number = n; field = f; «record» = i; place = p; value = v })
 
 -- Some symbols asked of the edge e; some numbers asked of the state s.
 abbrev matched : List ℤ → ℕ → List ℤ → ℕ → List ℤ → ℕ → ℤ → ℤ → ℤ → List ℤ → List Matching
@@ -305,11 +302,11 @@ def questions(told, rng):
                     one, "matches", len(symbols), "edge %d, symbols %s, min %d, max %d" % (edge, spelled(symbols), low, high),
                     "matched %s %s %s (pos %d) %s %s %s" % (
                         table["Edges"], table["Sets"], table["Ranges"], edge, integer(low), integer(high), listed(symbols)),
-                    "".join("M.Matches %s ∷ " % ("true" if bit == "1" else "false") for bit in next(answers)) + "[]")
+                    "".join("Ok %s ∷ " % ("true" if bit == "1" else "false") for bit in next(answers)) + "[]")
             yield Question(
                 one, "n-th edge", len(chain), "the edges of state %d" % state,
                 "nths %s %s (pos %d) %s" % (table["States"], table["Edges"], state, listed(range(len(chain)))),
-                "".join("E.Edge (pos %d) ∷ " % edge for edge in chain) + "[]")
+                "".join("Ok (pos %d) ∷ " % edge for edge in chain) + "[]")
         for number, ranges in enumerate(one.kept):
             yield Question(
                 one, "set's part", 1, "set %d" % number,
