@@ -22,7 +22,9 @@ use tables::SCRATCH;
 const TAIL_CALL: usize = 2;
 
 // Whether edge e is a rule edge with a safe follow state: most edges are none, and are passed over by their type.
-// A follow state of another rule is never safe for the source's rule, so that the search for its own rule serves.
+// A follow state of another rule is never safe for the source's rule, so that the search for its own rule serves. (Inlined, so that a Network
+// that is made for one edge is never laid out.)
+#[inline(always)]
 pub fn tail_call_follow_is_safe(network: &Network, scratch: &mut [i32], e: usize) -> bool
     requires idle { IdleIn network.now scratch.old }
     requires listed { e < network.now.edge_count }

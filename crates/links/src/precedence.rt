@@ -30,6 +30,7 @@ fn flag_two(states: &[i32], s: usize) -> bool
 }
 
 // The state s is of type 10, and its rule starts at a state with flag 2.
+#[inline(always)]
 fn recursive(net: &Net, s: usize) -> bool
     requires { s < net.now.states.count }
     ensures { result ≡ recursive_at net.now.states.count net.now.rules.count net.now.rules.words.now net.now.states.words.now s }
@@ -74,7 +75,8 @@ fn loops(net: &Net, s: usize) -> bool
     target_of(net, first, StateKind::RuleStop).is_some()
 }
 
-// The state s is a precedence decision.
+// The state s is a precedence decision. (Inlined, so that a Net that is made for one question is never laid out.)
+#[inline(always)]
 pub fn decides(net: &Net, s: usize) -> bool
     requires { s < net.now.states.count }
     ensures { result ≡ decides_at net.now.states.count net.now.edges.count net.now.rules.count net.now.rules.words.now net.now.edges.words.now net.now.states.words.now s }
