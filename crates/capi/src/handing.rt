@@ -1,6 +1,6 @@
 // An answer's values, handed over (include/gatehazel.h, "Answers").
 
-ghost use Rattle.std.specs.Prelude.{◌≡◌, [], ◌∷◌, ◌≤◌, ◌<◌, ◌^◌, pos, length};
+ghost use Rattle.std.specs.Prelude.{◌≡◌, [], ◌∷◌, ◌≤◌, ◌<◌, ◌^◌, pos, length, set};
 ghost use Rattle.format.specs.Answers.{said, of_refusal, of_decoded, of_written, of_nth_edge, of_matching, of_set_part};
 ghost use Rattle.capi.specs.Handed.{handed, Hands, Small, SmallWritten, SmallRefusal, SmallCounts, SmallPart};
 
@@ -17,7 +17,17 @@ fn signed(n: usize) -> i64
     n as i64
 }
 
-// The values become the first elements, and zeros follow up to the 16th; of a shorter answer, as many as there are.
+// One element, if there is one.
+fn put(answer: &mut [i64], at: usize, value: i64)
+    ensures { answer.new ≡ set answer.old at value }
+{
+    if at < answer.len() {
+        answer[at] = value;
+    }
+}
+
+// The values become the first elements, and zeros follow up to the 16th; of a shorter answer, as many as there are. (One by one, since
+// `copy_from_slice` has the archive ask for a `memcpy`, which not every firmware has.)
 fn hand(values: &[i64], answer: &mut [i64])
     requires { length values.now ≤ 16 }
     ensures { answer.new ≡ handed values.now answer.old }
@@ -25,8 +35,9 @@ fn hand(values: &[i64], answer: &mut [i64])
     let room = answer.len();
     let cleared = room.min(MOST);
     answer[..cleared].fill(0);
-    let given = room.min(values.len());
-    answer[..given].copy_from_slice(&values[..given]);
+    for (i, value) in values.iter().enumerate() {
+        put(answer, i, *value);
+    }
 }
 
 // What is no refusal has the number 0.
