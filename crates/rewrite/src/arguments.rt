@@ -9,10 +9,11 @@ use std::alloc::AllocError;
 use std::ops::Range;
 use std::rt::Env;
 
-// A token type, and the rule that it is for, in digits.
-#[derive(Drop)]
+// A token type, and the place of the word that names its rule, in digits. (Not these digits: a word of the command line stays where it is,
+// and there may be tens of thousands.)
+#[derive(Clone, Copy)]
 pub struct Setting {
-    pub rule: String,
+    pub rule_at: usize,
     pub token: i32,
 }
 
@@ -46,16 +47,16 @@ fn next_word(
 fn take_setting(rt: &(impl Env + AllocGlobal), places: &mut Range<usize>) -> Result<Setting, Misuse>
     ensures { places.new.end - places.new.start ≤ places.old.end - places.old.start }
 {
+    let rule_at = places.start;
     let word = next_word(rt, places)?.ok_or(Misuse::NoRule)?;
-    let Some(digits) = numbers::natural_of(&word) else {
+    if numbers::natural_of(&word).is_none() {
         return Err(Misuse::WrongRule(word));
-    };
-    let rule = String::from_str(rt.alloc(), digits)?;
+    }
     let word = next_word(rt, places)?.ok_or(Misuse::NoType)?;
     let Some(token) = numbers::token_of(&word) else {
         return Err(Misuse::WrongType(word));
     };
-    Ok(Setting { rule, token })
+    Ok(Setting { rule_at, token })
 }
 
 // A word that is no option is the file, once.

@@ -1,15 +1,16 @@
 // A dialect file: read, decoded, its token types set, and written. Document 02, R-1.
 
 use crate::arguments::Setting;
-use crate::output;
+use crate::{numbers, output};
 use format::{Refusal, rule};
 use lending::Tables;
+use loading::arguments;
 use loading::dialect::WORDS;
 use printing::refusals::{Undecoded, Unwritten};
 use std::alloc::AllocError;
 use std::fmt;
 use std::fmt::Display;
-use std::rt::Files;
+use std::rt::{Env, Files};
 
 // At most twice as many words are written as were read: a set that had the EOF flag may get a range more, two words, and was read from two
 // words at least, its interval count and the flag; nothing else grows.
@@ -76,23 +77,33 @@ impl From<AllocError> for Fault {
     }
 }
 
-// A rule's token type, in the first records of the rules' table.
-fn set(rules: &mut [i32], listed: usize, setting: Setting) -> Result<(), Fault> {
-    let Setting { rule, token } = setting;
+// A rule's token type, in the first records of the rules' table. The word that names the rule was looked at before.
+fn set(
+    rt: &(impl Env + AllocGlobal),
+    rules: &mut [i32],
+    listed: usize,
+    setting: Setting,
+) -> Result<(), Fault> {
+    let mut space = [0u8; 4096];
+    let n = arguments::get(rt, setting.rule_at, &mut space);
+    let digits = numbers::natural_of(&space[..n]).unwrap_or("");
     let (records, _) = rules.as_chunks_mut::<{ rule::WIDTH }>();
-    match rule.parse::<usize>() {
+    match digits.parse::<usize>() {
         Ok(n) if n < listed && n < records.len() => {
-            records[n][rule::TOKEN] = token;
+            records[n][rule::TOKEN] = setting.token;
             Ok(())
         }
-        _ => Err(Fault::Unlisted { rule, listed }),
+        _ => {
+            let rule = String::from_str(rt.alloc(), digits)?;
+            Err(Fault::Unlisted { rule, listed })
+        }
     }
 }
 
 // The file, rewritten; of two token types for one rule the last counts. Each table has room for as many records as a dialect can have
 // words.
 pub fn rewrite(
-    rt: &(impl Files + Print + AllocGlobal),
+    rt: &(impl Files + Print + Env + AllocGlobal),
     file: &[u8],
     settings: Vec<Setting>,
 ) -> Result<(), Fault> {
@@ -101,7 +112,7 @@ pub fn rewrite(
     let mut tables = Tables::for_records(rt.alloc(), WORDS)?;
     let counts = tables.decode(&words[..n]).map_err(Fault::Undecoded)?;
     for setting in settings {
-        set(&mut tables.rules, counts.rules, setting)?;
+        set(rt, &mut tables.rules, counts.rules, setting)?;
     }
     let mut out = [0i32; WRITTEN];
     let n = tables.write(counts, &mut out).map_err(Fault::Unwritten)?;

@@ -27,12 +27,13 @@ fn run(rt: &(impl Print + Files + Env + AllocGlobal)) -> io::Result<()> {
         return rt.println(USAGE);
     }
     let mut graph = false;
+    let mut kept = None;
     for i in 1..count {
         let mut space = [0u8; 4096];
         let n = arguments::get(rt, i, &mut space);
         match &space[..n] {
             b"--dot" => graph = true,
-            name => files::show(rt, name, graph)?,
+            name => files::show(rt, &mut kept, name, graph)?,
         }
     }
     Ok(())
