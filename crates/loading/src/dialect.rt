@@ -1,6 +1,6 @@
 // A whole dialect file: at most 131,072 bytes, which fill its words. What isn't one has a fault, which prints itself.
 
-ghost use Rattle.std.specs.Prelude.{◌≡◌, ◌≢◌, ◌/◌, ◌%◌, ◌<◌, ◌≤◌, ◌↔◌, min, length, IfOk, OnErr, IsErrOf};
+ghost use Rattle.std.specs.Prelude.{◌≡◌, ◌≢◌, ◌/◌, ◌%◌, ◌<◌, ◌≤◌, ◌↔◌, min, length, IfOk, IsOk, OnErr, IsErrOf};
 ghost use Rattle.loading.specs.Bytes.{filled};
 
 use crate::files;
@@ -40,6 +40,7 @@ impl Display for Fault {
 pub fn words_in(bytes: &[u8], out: &mut [i32]) -> Result<usize, Fault>
     ensures long { IsErrOf result Fault.TooLong ↔ (BYTES < length bytes.now) }
     ensures ragged { IsErrOf result Fault.Ragged ↔ ((length bytes.now ≤ BYTES) × (length bytes.now % 4 ≢ 0)) }
+    ensures whole { IsOk result ↔ ((length bytes.now ≤ BYTES) × (length bytes.now % 4 ≡ 0)) }
     ensures counted { IfOk result (λ n. n ≡ min (length bytes.now / 4) (length out.old)) }
     ensures filled { IfOk result (λ n. out.new ≡ filled n bytes.now out.old) }
     ensures err { OnErr result (out.new ≡ out.old) }

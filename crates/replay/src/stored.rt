@@ -3,8 +3,9 @@
 // place, value, and the number of the record. At last the number of the words that are written of the tables, and these; 0 where the list
 // is refused. A block of the file holds whole cases, and words of -1 behind them. What would stand behind a block's end is 0 or nothing.
 
-ghost use Rattle.std.specs.Prelude.{◌-◌, ◌≤◌, length};
+ghost use Rattle.std.specs.Prelude.{◌≡◌, ◌-◌, ◌≤◌, ◌<◌, ◌^◌, length, take};
 ghost use Rattle.std.specs.Iterator.{at_most};
+ghost use Rattle.replay.specs.Compare.{word_at};
 
 use format::{Counts, Decoded, Refusal};
 
@@ -28,7 +29,8 @@ struct Reader<'a> {
 impl<'a> Reader<'a> {
     // The next n words; all where there are fewer.
     fn words(&mut self, n: usize) -> &'a [i32]
-        ensures { length self.new.rest.now ≤ length self.old.rest.now - n }
+        ensures taken { result.now ≡ take n self.old.rest.now }
+        ensures left { length self.new.rest.now ≤ length self.old.rest.now - n }
     {
         let (words, rest) = self.rest.split_at(n.min(self.rest.len()));
         self.rest = rest;
@@ -37,14 +39,16 @@ impl<'a> Reader<'a> {
 
     // The next word; 0 where there is none.
     fn word(&mut self) -> i32
-        ensures { length self.new.rest.now ≤ length self.old.rest.now - 1 }
+        ensures value { result ≡ word_at self.old.rest.now 0 }
+        ensures left { length self.new.rest.now ≤ length self.old.rest.now - 1 }
     {
         self.words(1).first().copied().unwrap_or(0)
     }
 
     // The next word, as a count; none where it is negative.
     fn count(&mut self) -> usize
-        ensures { length self.new.rest.now ≤ length self.old.rest.now - 1 }
+        ensures bounded { result < 2 ^ 31 }
+        ensures left { length self.new.rest.now ≤ length self.old.rest.now - 1 }
     {
         usize::try_from(self.word()).unwrap_or(0)
     }
