@@ -36,6 +36,7 @@ pub trait Section {
 }
 
 // Fields 4 to 8.
+#[derive(Clone, Copy)]
 pub struct States;
 
 impl Section for States {
@@ -65,6 +66,7 @@ impl Section for States {
 }
 
 // Fields 13 to 15: a rule, whose stop is not known yet.
+#[derive(Clone, Copy)]
 pub struct Rules;
 
 impl Section for Rules {
@@ -105,6 +107,7 @@ fn deserialize_number(part: &mut [i32], words: &[i32], at: usize, spot: Spot) ->
 }
 
 // Fields 16 and 17.
+#[derive(Clone, Copy)]
 pub struct Modes;
 
 impl Section for Modes {
@@ -132,6 +135,7 @@ impl Section for Modes {
 }
 
 // Fields 30 and 31. (Beside `Modes`, since two fields and a count differ, and what is the same is `deserialize_number`.)
+#[derive(Clone, Copy)]
 pub struct Decisions;
 
 impl Section for Decisions {
@@ -159,6 +163,7 @@ impl Section for Decisions {
 }
 
 // Fields 32 to 35.
+#[derive(Clone, Copy)]
 pub struct Actions;
 
 impl Section for Actions {
