@@ -75,7 +75,7 @@ pub fn set_ranges<'a>(
 {
     match set_part(sets, set_count, ranges, range_count, set) {
         Ok((from, length)) => &ranges[from..from + length],
-        Err(_) => &[],
+        Err(_) => &ranges[..0],
     }
 }
 

@@ -1,6 +1,7 @@
 // Document 01, "Matching": how an edge of each type meets a symbol.
 
-ghost use Rattle.std.specs.Prelude.{◌≡◌, true};
+ghost use Rattle.std.specs.Prelude.{◌≡◌, ◌⊎◌, ℕ, ◌<◌, pos, true};
+ghost use Rattle.std.specs.Option.{MatchOption};
 ghost use Rattle.format.specs.Reading.{Sets, Ranges};
 ghost use Rattle.format.specs.Kinds.{edge_number};
 ghost use Rattle.format.specs.Questions.{fits, matching, set_part};
@@ -43,6 +44,13 @@ fn in_set(
     }
 }
 
+// The type that a word is, if it is an edge's.
+fn kind_of(kind: i32) -> Option<EdgeKind>
+    ensures { MatchOption result ((n : ℕ) → kind ≡ pos n → (n < 1) ⊎ (10 < n)) (λ k. kind ≡ pos (edge_number k)) }
+{
+    EdgeKind::try_from(kind).ok()
+}
+
 // A listed edge. (A table and its count are two parameters in this crate: `tables::rows::Rows` holds "65,536 at most", and a question takes
 // any count, as C gives it.) "an edge type not 1 to 10, a set part outside: 14, whatever the symbol".
 pub fn meets(
@@ -60,7 +68,7 @@ pub fn meets(
     requires { (fits Sets set_count sets.now ≡ true) × (fits Ranges range_count ranges.now ≡ true) }
     ensures { result ≡ spec.meets kind p q sets.now set_count ranges.now range_count symbol min max }
 {
-    let Ok(known) = EdgeKind::try_from(kind) else {
+    let Some(known) = kind_of(kind) else {
         return Err(denials::contradiction());
     };
     let hit = match known {

@@ -53,5 +53,8 @@ pub fn contains(ranges: &[i32], value: i32) -> bool
             high = middle;
         }
     }
-    0 < low && value <= ranges[2 * (low - 1) + 1]
+    if low == 0 {
+        return false;
+    }
+    value <= ranges[2 * (low - 1) + 1]
 }

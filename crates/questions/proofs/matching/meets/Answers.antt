@@ -13,14 +13,14 @@ pub returns-in_default : goal.returns-in_default
 returns-in_default c =
     let a = c.args in
     let e = rw (back32 a.kind c.ranges.kind.sfits) at c.in_default.ensures in
-    ap Err c.contradiction.ensures ∙ sym (meets_unknown a.kind a.p a.q a.sets.now a.set_count a.ranges.now a.range_count a.symbol a.min a.max (untyped a.kind e.1))
+    ap Err c.contradiction.ensures ∙ sym (meets_unknown a.kind a.p a.q a.sets.now a.set_count a.ranges.now a.range_count a.symbol a.min a.max (untyped a.kind e))
 
 pub returns-in_err-hit-in-Set : goal.returns-in_err-hit-in-Set
 returns-in_err-hit-in-Set c =
     let a = c.args in
     let f = c.ranges in
-    let k = rw (back32 a.kind f.kind.sfits) at c.in-Ok.ensures in
-    let n = c.in-Ok.known in
+    let k = rw (back32 a.kind f.kind.sfits) at c.in-Some.ensures in
+    let n = c.in-Some.known in
     let d = c.in_err-hit-in-Set.field-0.0 in
     let h = err_from_is_err_and c.from_residual.result c.from_residual.ensures.1 in
     let e = rw (back32 a.p f.p.sfits, back32 a.symbol f.symbol.sfits) at c.in_err-hit-in-Set.ensures in
@@ -32,8 +32,8 @@ pub returns : goal.returns
 returns c =
     let a = c.args in
     let f = c.ranges in
-    let k = rw (back32 a.kind f.kind.sfits) at c.in-Ok.ensures in
-    let n = c.in-Ok.known in
+    let k = rw (back32 a.kind f.kind.sfits) at c.in-Some.ensures in
+    let n = c.in-Some.known in
     let b = rw (back32 a.p f.p.sfits, back32 a.q f.q.sfits, back32 a.symbol f.symbol.sfits, back32 a.min f.min.sfits, back32 a.max f.max.sfits) at c.by_kind.ensures in
     let by = λ (h : Bool). matching (edge_number n) a.p a.q h a.symbol a.min a.max in
     elim c.match-known.branch [
