@@ -59,7 +59,7 @@ uint32_t gatehazel_decode(const int32_t *words, size_t words_len,
  * these records again: pass answer[0] as `words_len`, since the zeros behind are no words.
  * Else 15, whatever `out_len` is, or 16: answer = number; `out` is all zero. What `out` held before never matters.
  * The words can be more than the list had that was decoded: a set's EOF flag becomes a range, two words more.
- * There is no scratch: a call takes 17,248 bytes of stack up to 1,024 states and rules, and 1,049,296 above. */
+ * There is no scratch: a call takes 17,248 bytes of stack up to 1,024 states and rules, and 1,049,440 above. */
 uint32_t gatehazel_write(const int32_t *states, size_t states_len, size_t states_count,
     const int32_t *edges, size_t edges_len, size_t edges_count, const int32_t *ranges, size_t ranges_len, size_t ranges_count,
     const int32_t *sets, size_t sets_len, size_t sets_count, const int32_t *rules, size_t rules_len, size_t rules_count,
