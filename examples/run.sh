@@ -1,10 +1,13 @@
 #!/bin/sh
-# Builds the archive, the C examples and the Rust example, runs them, and holds what they print to examples/expected.
-# Needs rt, a C compiler and rustc. Run it at the repository's root.
+# Builds the archive, the C examples and the Rust example, runs them, and holds what they print to examples/expected; and that the archive
+# needs nothing from outside but `memset`.
+# Needs rt, a C compiler with nm, and rustc. Run it at the repository's root.
 set -eu
 cd "$(dirname "$0")/.."
 (cd crates/capi && rt lib > /dev/null 2>&1) || { echo 'examples: rt lib failed in crates/capi'; exit 1; }
 archive=crates/capi/out/libcapi.a
+needs=$(nm -u "$archive" | awk '$1 == "U" { print $2 }' | sort -u | tr '\n' ' ')
+[ "$needs" = 'memset ' ] || { echo "examples: the archive needs more than memset from outside: $needs"; exit 1; }
 out=target/examples
 mkdir -p "$out"
 cc -std=c99 -Wall -Wextra -Iinclude -o "$out/walk" examples/c/walk.c "$archive"
