@@ -1,4 +1,4 @@
--- Values that are handed over one by one, each through a local.
+-- What the exports' answers need of a part of a lent slice, and of a writing's max token type.
 use Rattle.std.specs.Prelude.{Ok, Err}
 use mathlib.Core.List.{List}
 use Prim.Native.Nat.{ℕ, ◌<◌, ◌^◌}

@@ -60,7 +60,7 @@ impl Lent<'_> {
         }
     }
 
-    // Every word of every table becomes 0. (Inlined, so that what is lent stays in registers: a decode takes 96 bytes of stack less.)
+    // Every word of every table becomes 0. (Inlined: a decode takes 96 bytes of stack less.)
     #[inline(always)]
     pub fn clear(&mut self)
         ensures kept { Kept self.old self.new }
